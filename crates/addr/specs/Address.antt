@@ -1,0 +1,78 @@
+-- What the calls on addresses answer. The sentences are those of document 01, "Addresses".
+use Prim.Native.Nat.{ℕ, _+_, _-_, _%_, _^_}
+use mathlib.Core.Bool.{Bool}
+use lib.Dec.{ltb, leb, eqb}
+use Rattle.laws.specs.Outcome.{Outcome, gives, unless, andThen}
+use Rattle.laws.specs.Refusal.{notCanonical, notPhysical, notPowerOfTwo, overflow, resultNotCanonical, resultNotPhysical}
+use Rattle.laws.specs.Width.{canonical, signExtend}
+use Rattle.laws.specs.Steps.{forward, backward, steps}
+use Rattle.laws.specs.Align.{powerOfTwo, up}
+use Rattle.addr.specs.Align.{alignDown, alignUp}
+
+-- which numbers are addresses, and the refusals of an argument and of a result that is none
+pub record Space : Type 0 where
+  pub holds : ℕ → Bool
+  pub argument : ℕ
+  pub result : ℕ
+
+-- "1 a virtual number not canonical"; "6 if the virtual result isn't canonical"
+abbrev pub virt : ℕ → Space
+virt w = record { holds = canonical w; argument = notCanonical; result = resultNotCanonical }
+
+-- "2 a physical number of 2^52 or more"; "8 if the physical one is 2^52 or more"
+abbrev pub phys : ℕ → Space
+phys w = record { holds = λ a. ltb a (2 ^ w); argument = notPhysical; result = resultNotPhysical }
+
+-- "An argument that is no address .. is refused first, in argument order"; then what follows
+abbrev pub given : {A : Type 0} → Space → ℕ → Outcome A → Outcome A
+given s a o = unless (s .argument) (s .holds a) o
+
+-- "`try_new`: 1, or 2 for physical"; a number handed back as it is
+abbrev pub address : Space → ℕ → Outcome ℕ
+address s a = given s a (gives a)
+
+abbrev pub isNull : Space → ℕ → Outcome Bool
+isNull s a = given s a (gives (eqb a 0))
+
+-- whether the address is a multiple of the alignment; 4 as for the alignments
+abbrev pub isAligned : Space → ℕ → ℕ → Outcome Bool
+isAligned s a n = given s a (unless notPowerOfTwo (powerOfTwo n) (gives (eqb (a % n) 0)))
+
+-- "`+` and `-` with a count: 5 beyond 64 bits or below zero; then 6 .., 8 .."
+abbrev pub plus : Space → ℕ → ℕ → Outcome ℕ
+plus s a n = given s a (unless overflow (ltb (a + n) (2 ^ 64)) (unless (s .result) (s .holds (a + n)) (gives (a + n))))
+
+abbrev pub minus : Space → ℕ → ℕ → Outcome ℕ
+minus s a n = given s a (unless overflow (leb n a) (unless (s .result) (s .holds (a - n)) (gives (a - n))))
+
+-- "Address minus address: 5 below zero."
+abbrev pub distance : Space → ℕ → ℕ → Outcome ℕ
+distance s a b = given s a (given s b (unless overflow (leb b a) (gives (a - b))))
+
+-- "Virtual results are sign-extended as in the source"; 5 is tried "before sign extension"
+abbrev pub alignDownVirt : ℕ → ℕ → ℕ → Outcome ℕ
+alignDownVirt w a n = given (virt w) a (andThen (alignDown a n) (λ x. gives (signExtend w x)))
+
+abbrev pub alignUpVirt : ℕ → ℕ → ℕ → Outcome ℕ
+alignUpVirt w a n = given (virt w) a (andThen (alignUp a n) (λ x. gives (signExtend w x)))
+
+abbrev pub alignDownPhys : ℕ → ℕ → ℕ → Outcome ℕ
+alignDownPhys w a n = given (phys w) a (alignDown a n)
+
+-- "Physical `align_up` refuses 8 at 2^52 or more."
+abbrev pub alignUpPhys : ℕ → ℕ → ℕ → Outcome ℕ
+alignUpPhys w a n =
+    given (phys w) a
+    (unless notPowerOfTwo (powerOfTwo n)
+    (unless resultNotPhysical (ltb (up n a) (2 ^ w))
+    (gives (up n a))))
+
+-- steps and distances by the low parts, from addresses
+abbrev pub forwardFrom : ℕ → ℕ → ℕ → Outcome ℕ
+forwardFrom w s n = given (virt w) s (forward w s n)
+
+abbrev pub backwardFrom : ℕ → ℕ → ℕ → Outcome ℕ
+backwardFrom w s n = given (virt w) s (backward w s n)
+
+abbrev pub stepsBetween : ℕ → ℕ → ℕ → Outcome ℕ
+stepsBetween w s e = given (virt w) s (given (virt w) e (steps w s e))

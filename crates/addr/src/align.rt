@@ -1,0 +1,59 @@
+// Alignment of plain numbers.
+use crate::answer::U64Answer;
+use crate::refusal::NOT_POWER_OF_TWO;
+use crate::refusal::OVERFLOW;
+ghost use mathlib.Core.Path.{_≡_};
+ghost use mathlib.Core.Bool.{true};
+ghost use Prim.Native.Nat.{_+_, _%_};
+ghost use Rattle.laws.specs.Align.{powerOfTwo, up};
+ghost use Rattle.addr.specs.Answers.{u64Of};
+ghost use Rattle.addr.specs.Align.{alignDown, alignUp};
+
+// Whether just one bit of the alignment is set.
+pub(crate) fn is_power_of_two(align: u64) -> bool
+    ensures { λ r. ⌜ r ≡ powerOfTwo align ⌝ }
+{
+    u64::count_ones(align) == 1
+}
+
+// What addr is past the multiple below it.
+pub(crate) fn rest(addr: u64, align: u64) -> u64
+    requires { ⌜ powerOfTwo align ≡ true ⌝ }
+    ensures { λ r. ⌜ r ≡ addr % align ⌝ }
+{
+    addr & (align - 1)
+}
+
+// What addr lacks to the multiple above it; 0 where it is one.
+pub(crate) fn padding(addr: u64, align: u64) -> u64
+    requires { ⌜ powerOfTwo align ≡ true ⌝ }
+    ensures { λ r. ⌜ addr + r ≡ up align addr ⌝ }
+{
+    let past = rest(addr, align);
+    if past == 0 { 0 } else { align - past }
+}
+
+// The greatest multiple of the alignment that is not above addr; 4 if it is no power of two.
+pub fn align_down(addr: u64, align: u64) -> U64Answer
+    ensures { λ r. ⌜ u64Of r ≡ alignDown addr align ⌝ }
+{
+    if !is_power_of_two(align) {
+        return U64Answer::Refused(NOT_POWER_OF_TWO);
+    }
+    U64Answer::Value(addr - rest(addr, align))
+}
+
+// The least multiple of the alignment that is not below addr; 4 if it is no power of two, 5 if the
+// multiple is 2^64.
+pub fn align_up(addr: u64, align: u64) -> U64Answer
+    ensures { λ r. ⌜ u64Of r ≡ alignUp addr align ⌝ }
+{
+    if !is_power_of_two(align) {
+        return U64Answer::Refused(NOT_POWER_OF_TWO);
+    }
+    let more = padding(addr, align);
+    if u64::MAX - addr < more {
+        return U64Answer::Refused(OVERFLOW);
+    }
+    U64Answer::Value(addr + more)
+}

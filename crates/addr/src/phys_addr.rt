@@ -1,0 +1,179 @@
+// Physical addresses.
+use crate::align::is_power_of_two;
+use crate::align::padding;
+use crate::align::rest;
+use crate::answer::BoolAnswer;
+use crate::answer::U64Answer;
+use crate::refusal::NOT_PHYSICAL;
+use crate::refusal::NOT_POWER_OF_TWO;
+use crate::refusal::OVERFLOW;
+use crate::refusal::RESULT_NOT_PHYSICAL;
+ghost use mathlib.Core.Path.{_≡_};
+ghost use Prim.Native.Nat.{_%_, _^_};
+ghost use Rattle.addr.specs.Answers.{physOf, u64Of, boolOf};
+ghost use Rattle.addr.specs.Address.{phys, address, isNull, isAligned, plus, minus, distance, alignDownPhys, alignUpPhys};
+
+// How many physical addresses there are: 2^52.
+const SIZE: u64 = 0x10_0000_0000_0000;
+
+pub struct PhysAddr(pub u64);
+
+pub enum PhysAnswer {
+    Addr(PhysAddr),
+    Refused(u8),
+}
+
+impl PhysAddr {
+    // The address with this number; 2 if it is 2^52 or more.
+    pub fn new(addr: u64) -> PhysAnswer
+        ensures { λ r. ⌜ physOf r ≡ address (phys 52) addr ⌝ }
+    {
+        PhysAddr::try_new(addr)
+    }
+
+    // The same as `new`: where the source has a `Result` for one and a panic for the other, both refuse.
+    pub fn try_new(addr: u64) -> PhysAnswer
+        ensures { λ r. ⌜ physOf r ≡ address (phys 52) addr ⌝ }
+    {
+        if addr < SIZE {
+            PhysAnswer::Addr(PhysAddr(addr))
+        } else {
+            PhysAnswer::Refused(NOT_PHYSICAL)
+        }
+    }
+
+    // The address with the number's low 52 bits.
+    pub fn new_truncate(addr: u64) -> PhysAddr
+        ensures { λ r. ⌜ r .0 ≡ addr % 2 ^ 52 ⌝ }
+    {
+        PhysAddr(addr % SIZE)
+    }
+
+    pub fn zero() -> PhysAddr
+        ensures { λ r. ⌜ r .0 ≡ 0 ⌝ }
+    {
+        PhysAddr(0)
+    }
+
+    // The address's number; 2 if it is no address.
+    pub fn as_u64(self) -> U64Answer
+        ensures { λ r. ⌜ u64Of r ≡ address (phys 52) (self .0) ⌝ }
+    {
+        let a = self.0;
+        if a < SIZE {
+            U64Answer::Value(a)
+        } else {
+            U64Answer::Refused(NOT_PHYSICAL)
+        }
+    }
+
+    // Whether the address is 0.
+    pub fn is_null(self) -> BoolAnswer
+        ensures { λ r. ⌜ boolOf r ≡ isNull (phys 52) (self .0) ⌝ }
+    {
+        let a = self.0;
+        if a < SIZE {
+            BoolAnswer::Value(a == 0)
+        } else {
+            BoolAnswer::Refused(NOT_PHYSICAL)
+        }
+    }
+
+    // The multiple of the alignment at or above the address; 4 if the alignment is no power of two,
+    // 8 if the multiple is 2^52 or more.
+    pub fn align_up(self, align: u64) -> PhysAnswer
+        ensures { λ r. ⌜ physOf r ≡ alignUpPhys 52 (self .0) align ⌝ }
+    {
+        let a = self.0;
+        if SIZE <= a {
+            return PhysAnswer::Refused(NOT_PHYSICAL);
+        }
+        if !is_power_of_two(align) {
+            return PhysAnswer::Refused(NOT_POWER_OF_TWO);
+        }
+        let more = padding(a, align);
+        if SIZE - a <= more {
+            return PhysAnswer::Refused(RESULT_NOT_PHYSICAL);
+        }
+        PhysAnswer::Addr(PhysAddr(a + more))
+    }
+
+    // The multiple of the alignment at or below the address; 4 if the alignment is no power of two.
+    pub fn align_down(self, align: u64) -> PhysAnswer
+        ensures { λ r. ⌜ physOf r ≡ alignDownPhys 52 (self .0) align ⌝ }
+    {
+        let a = self.0;
+        if SIZE <= a {
+            return PhysAnswer::Refused(NOT_PHYSICAL);
+        }
+        if !is_power_of_two(align) {
+            return PhysAnswer::Refused(NOT_POWER_OF_TWO);
+        }
+        PhysAnswer::Addr(PhysAddr(a - rest(a, align)))
+    }
+
+    // Whether the address is a multiple of the alignment; 4 if that is no power of two.
+    pub fn is_aligned(self, align: u64) -> BoolAnswer
+        ensures { λ r. ⌜ boolOf r ≡ isAligned (phys 52) (self .0) align ⌝ }
+    {
+        let a = self.0;
+        if SIZE <= a {
+            return BoolAnswer::Refused(NOT_PHYSICAL);
+        }
+        if !is_power_of_two(align) {
+            return BoolAnswer::Refused(NOT_POWER_OF_TWO);
+        }
+        BoolAnswer::Value(rest(a, align) == 0)
+    }
+
+    // The source's `+` with a count; 5 beyond 64 bits, 8 at 2^52 or more.
+    pub fn add(self, count: u64) -> PhysAnswer
+        ensures { λ r. ⌜ physOf r ≡ plus (phys 52) (self .0) count ⌝ }
+    {
+        let a = self.0;
+        if SIZE <= a {
+            return PhysAnswer::Refused(NOT_PHYSICAL);
+        }
+        if u64::MAX - a < count {
+            return PhysAnswer::Refused(OVERFLOW);
+        }
+        let sum = a + count;
+        if sum < SIZE {
+            PhysAnswer::Addr(PhysAddr(sum))
+        } else {
+            PhysAnswer::Refused(RESULT_NOT_PHYSICAL)
+        }
+    }
+
+    // The source's `-` with a count; 5 below zero.
+    pub fn sub(self, count: u64) -> PhysAnswer
+        ensures { λ r. ⌜ physOf r ≡ minus (phys 52) (self .0) count ⌝ }
+    {
+        let a = self.0;
+        if SIZE <= a {
+            return PhysAnswer::Refused(NOT_PHYSICAL);
+        }
+        if a < count {
+            return PhysAnswer::Refused(OVERFLOW);
+        }
+        PhysAnswer::Addr(PhysAddr(a - count))
+    }
+
+    // The source's `-` with an address; 5 below zero.
+    pub fn sub_addr(self, other: PhysAddr) -> U64Answer
+        ensures { λ r. ⌜ u64Of r ≡ distance (phys 52) (self .0) (other .0) ⌝ }
+    {
+        let a = self.0;
+        let b = other.0;
+        if SIZE <= a {
+            return U64Answer::Refused(NOT_PHYSICAL);
+        }
+        if SIZE <= b {
+            return U64Answer::Refused(NOT_PHYSICAL);
+        }
+        if a < b {
+            return U64Answer::Refused(OVERFLOW);
+        }
+        U64Answer::Value(a - b)
+    }
+}

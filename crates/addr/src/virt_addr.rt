@@ -1,0 +1,318 @@
+// Virtual addresses. `Width` has the operations for either width; the source's names are at 48 bits.
+use crate::align::is_power_of_two;
+use crate::align::padding;
+use crate::align::rest;
+use crate::answer::BoolAnswer;
+use crate::answer::U64Answer;
+use crate::refusal::NOT_CANONICAL;
+use crate::refusal::NOT_POWER_OF_TWO;
+use crate::refusal::OVERFLOW;
+use crate::refusal::RESULT_NOT_CANONICAL;
+use crate::width::Width;
+ghost use mathlib.Core.Path.{_≡_};
+ghost use Rattle.laws.specs.Width.{signExtend};
+ghost use Rattle.addr.specs.Answers.{virtOf, u64Of, boolOf};
+ghost use Rattle.addr.specs.Widths.{widthOf};
+ghost use Rattle.addr.specs.Address.{virt, address, isNull, isAligned, plus, minus, distance, alignDownVirt, alignUpVirt, forwardFrom, backwardFrom, stepsBetween};
+
+pub struct VirtAddr(pub u64);
+
+pub enum VirtAnswer {
+    Addr(VirtAddr),
+    None,
+    Refused(u8),
+}
+
+impl Width {
+    // The address with this number; 1 if it isn't canonical.
+    pub fn try_new(self, addr: u64) -> VirtAnswer
+        ensures { λ r. ⌜ virtOf r ≡ address (virt (widthOf self)) addr ⌝ }
+    {
+        if self.is_canonical(addr) {
+            VirtAnswer::Addr(VirtAddr(addr))
+        } else {
+            VirtAnswer::Refused(NOT_CANONICAL)
+        }
+    }
+
+    // The address's number; 1 if it is no address.
+    pub fn as_u64(self, addr: VirtAddr) -> U64Answer
+        ensures { λ r. ⌜ u64Of r ≡ address (virt (widthOf self)) (addr .0) ⌝ }
+    {
+        let a = addr.0;
+        if self.is_canonical(a) {
+            U64Answer::Value(a)
+        } else {
+            U64Answer::Refused(NOT_CANONICAL)
+        }
+    }
+
+    // Whether the address is 0.
+    pub fn is_null(self, addr: VirtAddr) -> BoolAnswer
+        ensures { λ r. ⌜ boolOf r ≡ isNull (virt (widthOf self)) (addr .0) ⌝ }
+    {
+        let a = addr.0;
+        if self.is_canonical(a) {
+            BoolAnswer::Value(a == 0)
+        } else {
+            BoolAnswer::Refused(NOT_CANONICAL)
+        }
+    }
+
+    // The multiple of the alignment at or below the address, sign-extended; 4 if the alignment is no
+    // power of two.
+    pub fn align_down(self, addr: VirtAddr, align: u64) -> VirtAnswer
+        ensures { λ r. ⌜ virtOf r ≡ alignDownVirt (widthOf self) (addr .0) align ⌝ }
+    {
+        let a = addr.0;
+        if !self.is_canonical(a) {
+            return VirtAnswer::Refused(NOT_CANONICAL);
+        }
+        if !is_power_of_two(align) {
+            return VirtAnswer::Refused(NOT_POWER_OF_TWO);
+        }
+        let below = a - rest(a, align);
+        VirtAnswer::Addr(VirtAddr(self.truncate(below)))
+    }
+
+    // The multiple of the alignment at or above the address, sign-extended; 4 if the alignment is no
+    // power of two, 5 if the multiple is 2^64.
+    pub fn align_up(self, addr: VirtAddr, align: u64) -> VirtAnswer
+        ensures { λ r. ⌜ virtOf r ≡ alignUpVirt (widthOf self) (addr .0) align ⌝ }
+    {
+        let a = addr.0;
+        if !self.is_canonical(a) {
+            return VirtAnswer::Refused(NOT_CANONICAL);
+        }
+        if !is_power_of_two(align) {
+            return VirtAnswer::Refused(NOT_POWER_OF_TWO);
+        }
+        let more = padding(a, align);
+        if u64::MAX - a < more {
+            return VirtAnswer::Refused(OVERFLOW);
+        }
+        let above = a + more;
+        let extended = self.truncate(above);
+        VirtAnswer::Addr(VirtAddr(extended))
+    }
+
+    // Whether the address is a multiple of the alignment; 4 if that is no power of two.
+    pub fn is_aligned(self, addr: VirtAddr, align: u64) -> BoolAnswer
+        ensures { λ r. ⌜ boolOf r ≡ isAligned (virt (widthOf self)) (addr .0) align ⌝ }
+    {
+        let a = addr.0;
+        if !self.is_canonical(a) {
+            return BoolAnswer::Refused(NOT_CANONICAL);
+        }
+        if !is_power_of_two(align) {
+            return BoolAnswer::Refused(NOT_POWER_OF_TWO);
+        }
+        BoolAnswer::Value(rest(a, align) == 0)
+    }
+
+    // The address count bytes on, with no jump over the gap; 5 beyond 64 bits, 6 if it isn't
+    // canonical.
+    pub fn add(self, addr: VirtAddr, count: u64) -> VirtAnswer
+        ensures { λ r. ⌜ virtOf r ≡ plus (virt (widthOf self)) (addr .0) count ⌝ }
+    {
+        let a = addr.0;
+        if !self.is_canonical(a) {
+            return VirtAnswer::Refused(NOT_CANONICAL);
+        }
+        if u64::MAX - a < count {
+            return VirtAnswer::Refused(OVERFLOW);
+        }
+        let sum = a + count;
+        if self.is_canonical(sum) {
+            VirtAnswer::Addr(VirtAddr(sum))
+        } else {
+            VirtAnswer::Refused(RESULT_NOT_CANONICAL)
+        }
+    }
+
+    // The address count bytes back, with no jump over the gap; 5 below zero, 6 if it isn't
+    // canonical.
+    pub fn sub(self, addr: VirtAddr, count: u64) -> VirtAnswer
+        ensures { λ r. ⌜ virtOf r ≡ minus (virt (widthOf self)) (addr .0) count ⌝ }
+    {
+        let a = addr.0;
+        if !self.is_canonical(a) {
+            return VirtAnswer::Refused(NOT_CANONICAL);
+        }
+        if a < count {
+            return VirtAnswer::Refused(OVERFLOW);
+        }
+        let difference = a - count;
+        if self.is_canonical(difference) {
+            VirtAnswer::Addr(VirtAddr(difference))
+        } else {
+            VirtAnswer::Refused(RESULT_NOT_CANONICAL)
+        }
+    }
+
+    // How far addr is above other, by their numbers, so with the gap; 5 if it is below.
+    pub fn sub_addr(self, addr: VirtAddr, other: VirtAddr) -> U64Answer
+        ensures { λ r. ⌜ u64Of r ≡ distance (virt (widthOf self)) (addr .0) (other .0) ⌝ }
+    {
+        let a = addr.0;
+        let b = other.0;
+        if !self.is_canonical(a) {
+            return U64Answer::Refused(NOT_CANONICAL);
+        }
+        if !self.is_canonical(b) {
+            return U64Answer::Refused(NOT_CANONICAL);
+        }
+        if a < b {
+            return U64Answer::Refused(OVERFLOW);
+        }
+        U64Answer::Value(a - b)
+    }
+
+    // The address count steps on, from the low half straight into the high one; none past the last.
+    pub fn forward_checked_u64(self, start: VirtAddr, count: u64) -> VirtAnswer
+        ensures { λ r. ⌜ virtOf r ≡ forwardFrom (widthOf self) (start .0) count ⌝ }
+    {
+        let s = start.0;
+        if !self.is_canonical(s) {
+            return VirtAnswer::Refused(NOT_CANONICAL);
+        }
+        let low = self.low(s);
+        if self.size() - low <= count {
+            return VirtAnswer::None;
+        }
+        VirtAnswer::Addr(VirtAddr(self.truncate(low + count)))
+    }
+
+    // The address count steps back, from the high half straight into the low one; none before 0.
+    pub fn backward_checked_u64(self, start: VirtAddr, count: u64) -> VirtAnswer
+        ensures { λ r. ⌜ virtOf r ≡ backwardFrom (widthOf self) (start .0) count ⌝ }
+    {
+        let s = start.0;
+        if !self.is_canonical(s) {
+            return VirtAnswer::Refused(NOT_CANONICAL);
+        }
+        let low = self.low(s);
+        if low < count {
+            return VirtAnswer::None;
+        }
+        VirtAnswer::Addr(VirtAddr(self.truncate(low - count)))
+    }
+
+    // How many steps lead from start to end; none if end is lower.
+    pub fn steps_between_u64(self, start: VirtAddr, end: VirtAddr) -> U64Answer
+        ensures { λ r. ⌜ u64Of r ≡ stepsBetween (widthOf self) (start .0) (end .0) ⌝ }
+    {
+        let s = start.0;
+        let e = end.0;
+        if !self.is_canonical(s) {
+            return U64Answer::Refused(NOT_CANONICAL);
+        }
+        if !self.is_canonical(e) {
+            return U64Answer::Refused(NOT_CANONICAL);
+        }
+        let low = self.low(s);
+        let high = self.low(e);
+        if high < low {
+            return U64Answer::None;
+        }
+        U64Answer::Value(high - low)
+    }
+}
+
+impl VirtAddr {
+    // The address with this number; 1 if it isn't canonical.
+    pub fn new(addr: u64) -> VirtAnswer
+        ensures { λ r. ⌜ virtOf r ≡ address (virt 48) addr ⌝ }
+    {
+        Width::Bits48.try_new(addr)
+    }
+
+    // The same as `new`: where the source has a `Result` for one and a panic for the other, both refuse.
+    pub fn try_new(addr: u64) -> VirtAnswer
+        ensures { λ r. ⌜ virtOf r ≡ address (virt 48) addr ⌝ }
+    {
+        Width::Bits48.try_new(addr)
+    }
+
+    // The address with the number's low 48 bits: bit 47 is copied upward.
+    pub fn new_truncate(addr: u64) -> VirtAddr
+        ensures { λ r. ⌜ r .0 ≡ signExtend 48 addr ⌝ }
+    {
+        VirtAddr(Width::Bits48.truncate(addr))
+    }
+
+    pub fn zero() -> VirtAddr
+        ensures { λ r. ⌜ r .0 ≡ 0 ⌝ }
+    {
+        VirtAddr(0)
+    }
+
+    pub fn as_u64(self) -> U64Answer
+        ensures { λ r. ⌜ u64Of r ≡ address (virt 48) (self .0) ⌝ }
+    {
+        Width::Bits48.as_u64(self)
+    }
+
+    pub fn is_null(self) -> BoolAnswer
+        ensures { λ r. ⌜ boolOf r ≡ isNull (virt 48) (self .0) ⌝ }
+    {
+        Width::Bits48.is_null(self)
+    }
+
+    pub fn align_up(self, align: u64) -> VirtAnswer
+        ensures { λ r. ⌜ virtOf r ≡ alignUpVirt 48 (self .0) align ⌝ }
+    {
+        Width::Bits48.align_up(self, align)
+    }
+
+    pub fn align_down(self, align: u64) -> VirtAnswer
+        ensures { λ r. ⌜ virtOf r ≡ alignDownVirt 48 (self .0) align ⌝ }
+    {
+        Width::Bits48.align_down(self, align)
+    }
+
+    pub fn is_aligned(self, align: u64) -> BoolAnswer
+        ensures { λ r. ⌜ boolOf r ≡ isAligned (virt 48) (self .0) align ⌝ }
+    {
+        Width::Bits48.is_aligned(self, align)
+    }
+
+    // The source's `+` with a count.
+    pub fn add(self, count: u64) -> VirtAnswer
+        ensures { λ r. ⌜ virtOf r ≡ plus (virt 48) (self .0) count ⌝ }
+    {
+        Width::Bits48.add(self, count)
+    }
+
+    // The source's `-` with a count.
+    pub fn sub(self, count: u64) -> VirtAnswer
+        ensures { λ r. ⌜ virtOf r ≡ minus (virt 48) (self .0) count ⌝ }
+    {
+        Width::Bits48.sub(self, count)
+    }
+
+    // The source's `-` with an address.
+    pub fn sub_addr(self, other: VirtAddr) -> U64Answer
+        ensures { λ r. ⌜ u64Of r ≡ distance (virt 48) (self .0) (other .0) ⌝ }
+    {
+        Width::Bits48.sub_addr(self, other)
+    }
+
+    pub fn forward_checked_u64(start: VirtAddr, count: u64) -> VirtAnswer
+        ensures { λ r. ⌜ virtOf r ≡ forwardFrom 48 (start .0) count ⌝ }
+    {
+        Width::Bits48.forward_checked_u64(start, count)
+    }
+
+    pub fn backward_checked_u64(start: VirtAddr, count: u64) -> VirtAnswer
+        ensures { λ r. ⌜ virtOf r ≡ backwardFrom 48 (start .0) count ⌝ }
+    {
+        Width::Bits48.backward_checked_u64(start, count)
+    }
+
+    pub fn steps_between_u64(start: VirtAddr, end: VirtAddr) -> U64Answer
+        ensures { λ r. ⌜ u64Of r ≡ stepsBetween 48 (start .0) (end .0) ⌝ }
+    {
+        Width::Bits48.steps_between_u64(start, end)
+    }
+}

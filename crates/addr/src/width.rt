@@ -1,0 +1,54 @@
+// The width of virtual addresses, and what depends on it.
+ghost use mathlib.Core.Path.{_≡_};
+ghost use Prim.Native.Nat.{_^_};
+ghost use Rattle.laws.specs.Width.{low, signExtend, canonical};
+ghost use Rattle.addr.specs.Widths.{widthOf};
+
+// 48 bits with four levels of tables, 57 with five.
+pub enum Width {
+    Bits48,
+    Bits57,
+}
+
+impl Width {
+    // How many addresses the width has.
+    pub fn size(self) -> u64
+        ensures { λ r. ⌜ r ≡ 2 ^ widthOf self ⌝ }
+    {
+        match self {
+            Width::Bits48 => 0x1_0000_0000_0000,
+            Width::Bits57 => 0x200_0000_0000_0000,
+        }
+    }
+
+    // The number's part below the width.
+    pub fn low(self, addr: u64) -> u64
+        ensures { λ r. ⌜ r ≡ low (widthOf self) addr ⌝ }
+    {
+        addr & (self.size() - 1)
+    }
+
+    // The number with the width's top bit copied upward.
+    pub fn truncate(self, addr: u64) -> u64
+        ensures { λ r. ⌜ r ≡ signExtend (widthOf self) addr ⌝ }
+    {
+        let size = self.size();
+        let low = self.low(addr);
+        if low < size / 2 {
+            low
+        } else {
+            low + (u64::MAX - (size - 1))
+        }
+    }
+
+    // Whether the number is in one of the halves, and not in the gap between them.
+    pub fn is_canonical(self, addr: u64) -> bool
+        ensures { λ r. ⌜ r ≡ canonical (widthOf self) addr ⌝ }
+    {
+        let half = self.size() / 2;
+        if addr < half {
+            return true;
+        }
+        u64::MAX - (half - 1) <= addr
+    }
+}

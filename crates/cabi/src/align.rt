@@ -1,0 +1,21 @@
+// Alignment of plain numbers.
+use crate::convention::give_u64;
+use addr::align_down;
+use addr::align_up;
+ghost use mathlib.Core.Path.{_≡_};
+ghost use Rattle.addr.specs.Align.{alignDown, alignUp};
+ghost use Rattle.cabi.specs.Convention.{left, leaves, word};
+
+#[no_mangle]
+pub extern "C" fn wuohtan_align_down(addr: u64, align: u64, out: &mut [u64]) -> u8
+    ensures { λ r. ⌜ left r (now (out .exit)) ≡ leaves (word (alignDown addr align)) (now (out .entry)) ⌝ }
+{
+    give_u64(align_down(addr, align), out)
+}
+
+#[no_mangle]
+pub extern "C" fn wuohtan_align_up(addr: u64, align: u64, out: &mut [u64]) -> u8
+    ensures { λ r. ⌜ left r (now (out .exit)) ≡ leaves (word (alignUp addr align)) (now (out .entry)) ⌝ }
+{
+    give_u64(align_up(addr, align), out)
+}

@@ -1,0 +1,29 @@
+-- The table holds: by computing, with powers of two known by their one bit.
+use Prim.Native.Nat.{ℕ, _^_}
+use mathlib.Core.Path.{_≡_, refl}
+use mathlib.Core.Bool.{true}
+use borrow.Author.Tests.{eq-eqb}
+use lib.Count.{ones}
+use Rattle.laws.specs.Align.{powerOfTwo, up}
+use Rattle.laws.specs.Width.{signExtend}
+use Rattle.laws.specs.Steps.{forward, steps}
+use Rattle.laws.proofs.Align.{one-bit}
+use Rattle.cases.specs.Table.{Table}
+
+power : (k : ℕ) → powerOfTwo (2 ^ k) ≡ true
+power k = eq-eqb (ones (2 ^ k)) 1 (one-bit (2 ^ k) .1 (k, refl))
+
+pub table : Table
+unfolding signExtend forward steps up
+table =
+    record {
+      a = refl;
+      b-forward = refl;
+      b-plus = refl;
+      c-last = refl;
+      c-past = refl;
+      d-steps = refl;
+      d-back = refl;
+      e-jump = rw (power 12);
+      e-zero = rw (power 48);
+    }

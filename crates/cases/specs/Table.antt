@@ -1,0 +1,23 @@
+-- The table of document 01, "Checked by proof", as one statement about the definitions. What the functions answer follows from their contracts, which give
+-- each answer by the same definitions.
+use Prim.Native.Nat.{_-_, _^_}
+use mathlib.Core.Path.{_≡_}
+use Rattle.laws.specs.Outcome.{gives, none, refuses}
+use Rattle.laws.specs.Width.{signExtend}
+use Rattle.addr.specs.Address.{virt, plus, alignUpVirt, forwardFrom, stepsBetween}
+
+pub record Table : Type 0 where
+  -- A truncate 8000_0000_0000: ffff_8000_0000_0000
+  pub a : signExtend 48 0x8000_0000_0000 ≡ 0xffff_8000_0000_0000
+  -- B forward(7fff_ffff_ffff, 1): ffff_8000_0000_0000; with `+`: refusal 6
+  pub b-forward : forwardFrom 48 0x7fff_ffff_ffff 1 ≡ gives 0xffff_8000_0000_0000
+  pub b-plus : plus (virt 48) 0x7fff_ffff_ffff 1 ≡ refuses 6
+  -- C forward(0, 2^48 − 1): ffff_ffff_ffff_ffff; 2^48: `None`
+  pub c-last : forwardFrom 48 0 (2 ^ 48 - 1) ≡ gives 0xffff_ffff_ffff_ffff
+  pub c-past : forwardFrom 48 0 (2 ^ 48) ≡ none
+  -- D steps 7fff_ffff_f000 to ffff_8000_0000_0000: 1000; back: `None`
+  pub d-steps : stepsBetween 48 0x7fff_ffff_f000 0xffff_8000_0000_0000 ≡ gives 0x1000
+  pub d-back : stepsBetween 48 0xffff_8000_0000_0000 0x7fff_ffff_f000 ≡ none
+  -- E align_up(7fff_ffff_f001, 1000): ffff_8000_0000_0000; align_up(1, 2^48): 0
+  pub e-jump : alignUpVirt 48 0x7fff_ffff_f001 0x1000 ≡ gives 0xffff_8000_0000_0000
+  pub e-zero : alignUpVirt 48 1 (2 ^ 48) ≡ gives 0

@@ -1,0 +1,4 @@
+pub mod Cases
+pub mod Width
+pub mod Steps
+pub mod Align

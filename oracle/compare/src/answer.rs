@@ -1,0 +1,89 @@
+//! What an operation answers: a status, as include/wuohtan.h has it, and words.
+
+use std::fmt;
+
+pub const ANSWERED: u8 = 0;
+pub const NO_ROOM: u8 = 254;
+pub const NONE: u8 = 255;
+
+/// The refusals by their numbers in document 01.
+pub const NOT_CANONICAL: u8 = 1;
+pub const NOT_PHYSICAL: u8 = 2;
+pub const NOT_POWER_OF_TWO: u8 = 4;
+pub const OVERFLOW: u8 = 5;
+pub const RESULT_NOT_CANONICAL: u8 = 6;
+pub const RESULT_NOT_PHYSICAL: u8 = 8;
+pub const INDEX_TOO_LARGE: u8 = 9;
+
+/// The most words that an answer has.
+pub const MOST_WORDS: usize = 8;
+
+/// Words behind the answer's are 0, so that equal answers are equal here.
+#[derive(Clone, Copy, PartialEq, Eq)]
+pub struct Answer {
+    pub status: u8,
+    words: [u64; MOST_WORDS],
+    count: usize,
+}
+
+impl Answer {
+    #[inline]
+    pub fn words(given: &[u64]) -> Answer {
+        let mut words = [0; MOST_WORDS];
+        words[..given.len()].copy_from_slice(given);
+        let count = given.len();
+        Answer {
+            status: ANSWERED,
+            words,
+            count,
+        }
+    }
+
+    #[inline]
+    pub fn none() -> Answer {
+        Answer::refused(NONE)
+    }
+
+    #[inline]
+    pub fn refused(status: u8) -> Answer {
+        Answer {
+            status,
+            words: [0; MOST_WORDS],
+            count: 0,
+        }
+    }
+
+    #[inline]
+    pub fn as_words(&self) -> &[u64] {
+        &self.words[..self.count]
+    }
+
+    /// Hands the answer over as the port does: by a status, and words only if all have room.
+    #[inline]
+    pub fn give(&self, out: &mut [u64]) -> u8 {
+        if self.status != ANSWERED {
+            return self.status;
+        }
+        match out.get_mut(..self.count) {
+            Some(room) => {
+                room.copy_from_slice(self.as_words());
+                ANSWERED
+            }
+            None => NO_ROOM,
+        }
+    }
+}
+
+impl fmt::Display for Answer {
+    fn fmt(&self, f: &mut fmt::Formatter) -> fmt::Result {
+        match self.status {
+            ANSWERED => {
+                write!(f, "answered")?;
+                self.as_words().iter().try_for_each(|w| write!(f, " {w:x}"))
+            }
+            NONE => write!(f, "none"),
+            NO_ROOM => write!(f, "no room"),
+            number => write!(f, "refused {number}"),
+        }
+    }
+}

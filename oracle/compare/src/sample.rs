@@ -1,0 +1,103 @@
+//! The fixed sample of questions for the replayed list.
+
+use std::collections::BTreeMap;
+use std::collections::BTreeSet;
+
+use crate::answer::Answer;
+use crate::cases;
+use crate::inputs;
+use crate::inputs::generator::Generator;
+use crate::operation::Operation;
+
+/// Never changed, so that the list stays as it is.
+const SEED: u64 = 1;
+const DRAWS: u64 = 20_000;
+
+/// Questions with the oracle's answers: the cases of document 01 and a choice in which each kind of
+/// answer has about the same share, from boundaries and drawn ones.
+pub fn of(operation: &Operation) -> BTreeMap<Vec<u64>, Answer> {
+    let mut chosen: BTreeMap<_, _> = cases::of(operation)
+        .map(|case| (case.args.to_vec(), oracle(operation, case.args)))
+        .collect();
+    let mut pools = pools(operation);
+    let size = size(operation);
+    while chosen.len() < size && !pools.is_empty() {
+        pools.retain_mut(|pool| match pool.pop() {
+            Some((args, answer)) if chosen.len() < size => {
+                chosen.insert(args, answer);
+                true
+            }
+            _ => false,
+        });
+    }
+    chosen
+}
+
+/// How many questions are wanted, by the number of arguments.
+fn size(operation: &Operation) -> usize {
+    match operation.kinds.len() {
+        0 => 1,
+        1 => 80,
+        _ => 250,
+    }
+}
+
+type Pool = Vec<(Vec<u64>, Answer)>;
+
+/// All questions that are chosen from, those on boundaries apart from drawn ones and each kind of
+/// answer apart from the others, every pool in a drawn order.
+fn pools(operation: &Operation) -> Vec<Pool> {
+    let mut boundary = BTreeSet::new();
+    let mut drawn = BTreeSet::new();
+    let gather = |into: &mut BTreeSet<Vec<u64>>, args: &[u64]| {
+        into.insert(args.to_vec());
+        Ok::<(), ()>(())
+    };
+    let _ = inputs::each_boundary(operation, |args| gather(&mut boundary, args));
+    let _ = inputs::each_drawn(operation, SEED, DRAWS, |args| gather(&mut drawn, args));
+
+    let mut generator = Generator::new(SEED);
+    let mut pools = Vec::new();
+    for questions in [boundary, drawn] {
+        let mut by_kind: BTreeMap<_, Pool> = BTreeMap::new();
+        for args in questions {
+            let answer = oracle(operation, &args);
+            by_kind
+                .entry(kind(&answer))
+                .or_default()
+                .push((args, answer));
+        }
+        for mut pool in by_kind.into_values() {
+            generator.shuffle(&mut pool);
+            pools.push(pool);
+        }
+    }
+    pools
+}
+
+/// The status, and of an answer whether its first word is 0, 1, low or high.
+fn kind(answer: &Answer) -> (u8, u8) {
+    let word = match answer.as_words().first() {
+        None | Some(0) => 0,
+        Some(1) => 1,
+        Some(word) if *word < 1 << 47 => 2,
+        Some(_) => 3,
+    };
+    (answer.status, word)
+}
+
+/// The Rust's answer, or the model's where the Rust has no way to say the question.
+fn oracle(operation: &Operation, args: &[u64]) -> Answer {
+    let model = operation.ask_model(args);
+    let rust = operation.ask_rust(args);
+    if let Some(trouble) = rust.trouble {
+        panic!("{} {args:x?}: {trouble}", operation.name);
+    }
+    let answer = rust.answer.unwrap_or(model);
+    assert!(
+        answer == model,
+        "{} {args:x?}: Rust {answer}, model {model}",
+        operation.name
+    );
+    answer
+}
