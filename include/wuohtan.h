@@ -5,6 +5,7 @@
  *   WUOHTAN_ANSWERED  the answer's words stand at the start of out[0..len]
  *   WUOHTAN_NONE      there is no such item
  *   WUOHTAN_NO_ROOM   there is an answer, and out is too short for its words
+ *   WUOHTAN_NO_SUCH_CHOICE  a level or a page size is none of those there are; tried first of all
  *   any other         the number of the refusal
  *
  * Unless the status is WUOHTAN_ANSWERED, out is left as it was; if it is, so is the part of out
@@ -24,10 +25,15 @@ enum {
     WUOHTAN_ANSWERED = 0,
     WUOHTAN_NOT_CANONICAL = 1,      /* a virtual number that is not canonical */
     WUOHTAN_NOT_PHYSICAL = 2,       /* a physical number of 2^52 or more */
+    WUOHTAN_NOT_ALIGNED = 3,        /* a start that is no multiple of its page size */
     WUOHTAN_NOT_POWER_OF_TWO = 4,   /* an alignment that is no power of two */
     WUOHTAN_OVERFLOW = 5,           /* a result beyond 64 bits or below zero */
     WUOHTAN_RESULT_NOT_CANONICAL = 6,
+    WUOHTAN_SIZES_DIFFER = 7,
     WUOHTAN_RESULT_NOT_PHYSICAL = 8,
+    WUOHTAN_INDEX_TOO_LARGE = 9,    /* an index of 512 or more, an offset of 4096 or more */
+    WUOHTAN_PFN_TOO_LARGE = 12,     /* a frame number whose frame would start at 2^52 or more */
+    WUOHTAN_NO_SUCH_CHOICE = 253,   /* a level that is not 1 to 4, a size that is no page size */
     WUOHTAN_NO_ROOM = 254,
     WUOHTAN_NONE = 255
 };
@@ -55,6 +61,14 @@ uint8_t wuohtan_virt_addr_forward_checked_u64(uint64_t start, uint64_t count, ui
 uint8_t wuohtan_virt_addr_backward_checked_u64(uint64_t start, uint64_t count, uint64_t *out, size_t len);
 uint8_t wuohtan_virt_addr_steps_between_u64(uint64_t start, uint64_t end, uint64_t *out, size_t len);
 
+/* The offset in a 4 KiB page, and the index into the table of a level, 1 to 4. */
+uint8_t wuohtan_virt_addr_page_offset(uint64_t addr, uint64_t *out, size_t len);
+uint8_t wuohtan_virt_addr_p1_index(uint64_t addr, uint64_t *out, size_t len);
+uint8_t wuohtan_virt_addr_p2_index(uint64_t addr, uint64_t *out, size_t len);
+uint8_t wuohtan_virt_addr_p3_index(uint64_t addr, uint64_t *out, size_t len);
+uint8_t wuohtan_virt_addr_p4_index(uint64_t addr, uint64_t *out, size_t len);
+uint8_t wuohtan_virt_addr_page_table_index(uint64_t addr, uint64_t level, uint64_t *out, size_t len);
+
 /* Physical addresses: one word each. */
 uint8_t wuohtan_phys_addr_new(uint64_t addr, uint64_t *out, size_t len);
 uint8_t wuohtan_phys_addr_try_new(uint64_t addr, uint64_t *out, size_t len);
@@ -68,6 +82,64 @@ uint8_t wuohtan_phys_addr_is_aligned(uint64_t addr, uint64_t align, uint64_t *ou
 uint8_t wuohtan_phys_addr_add(uint64_t addr, uint64_t count, uint64_t *out, size_t len);
 uint8_t wuohtan_phys_addr_sub(uint64_t addr, uint64_t count, uint64_t *out, size_t len);
 uint8_t wuohtan_phys_addr_sub_addr(uint64_t addr, uint64_t other, uint64_t *out, size_t len);
+
+/* Table indices, offsets and levels: one word each. */
+uint8_t wuohtan_page_table_index_new(uint64_t index, uint64_t *out, size_t len);
+uint8_t wuohtan_page_table_index_new_truncate(uint64_t index, uint64_t *out, size_t len);
+uint8_t wuohtan_page_table_index_into_u64(uint64_t index, uint64_t *out, size_t len);
+uint8_t wuohtan_page_table_index_forward_checked(uint64_t start, uint64_t count, uint64_t *out, size_t len);
+uint8_t wuohtan_page_table_index_backward_checked(uint64_t start, uint64_t count, uint64_t *out, size_t len);
+uint8_t wuohtan_page_table_index_steps_between(uint64_t start, uint64_t end, uint64_t *out, size_t len);
+uint8_t wuohtan_page_offset_new(uint64_t offset, uint64_t *out, size_t len);
+uint8_t wuohtan_page_offset_new_truncate(uint64_t offset, uint64_t *out, size_t len);
+uint8_t wuohtan_page_offset_into_u64(uint64_t offset, uint64_t *out, size_t len);
+uint8_t wuohtan_page_table_level_next_lower_level(uint64_t level, uint64_t *out, size_t len);
+uint8_t wuohtan_page_table_level_next_higher_level(uint64_t level, uint64_t *out, size_t len);
+uint8_t wuohtan_page_table_level_table_address_space_alignment(uint64_t level, uint64_t *out, size_t len);
+uint8_t wuohtan_page_table_level_entry_address_space_alignment(uint64_t level, uint64_t *out, size_t len);
+
+/* Frames: a start address and a size in bytes, 4096, 2^21 or 2^30. A frame is answered by its
+ * start; its size is the one handed in. */
+uint8_t wuohtan_phys_frame_from_start_address(uint64_t address, uint64_t size, uint64_t *out, size_t len);
+uint8_t wuohtan_phys_frame_from_pfn(uint64_t pfn, uint64_t size, uint64_t *out, size_t len);
+uint8_t wuohtan_phys_frame_try_from_pfn(uint64_t pfn, uint64_t size, uint64_t *out, size_t len);
+uint8_t wuohtan_phys_frame_containing_address(uint64_t address, uint64_t size, uint64_t *out, size_t len);
+uint8_t wuohtan_phys_frame_start_address(uint64_t start, uint64_t size, uint64_t *out, size_t len);
+uint8_t wuohtan_phys_frame_size(uint64_t start, uint64_t size, uint64_t *out, size_t len);
+uint8_t wuohtan_phys_frame_pfn(uint64_t start, uint64_t size, uint64_t *out, size_t len);
+uint8_t wuohtan_phys_frame_add(uint64_t start, uint64_t size, uint64_t count, uint64_t *out, size_t len);
+uint8_t wuohtan_phys_frame_sub(uint64_t start, uint64_t size, uint64_t count, uint64_t *out, size_t len);
+/* frame - other, both frames */
+uint8_t wuohtan_phys_frame_sub_frame(uint64_t start, uint64_t size, uint64_t other, uint64_t other_size,
+                                     uint64_t *out, size_t len);
+
+/* Pages: a start address and a size in bytes, as frames. A page from its indices has the size that
+ * the name says. p1_index of a page that is not 4 KiB and p2_index of one of 1 GiB refuse
+ * WUOHTAN_SIZES_DIFFER. */
+uint8_t wuohtan_page_from_start_address(uint64_t address, uint64_t size, uint64_t *out, size_t len);
+uint8_t wuohtan_page_containing_address(uint64_t address, uint64_t size, uint64_t *out, size_t len);
+uint8_t wuohtan_page_start_address(uint64_t start, uint64_t size, uint64_t *out, size_t len);
+uint8_t wuohtan_page_size(uint64_t start, uint64_t size, uint64_t *out, size_t len);
+uint8_t wuohtan_page_p1_index(uint64_t start, uint64_t size, uint64_t *out, size_t len);
+uint8_t wuohtan_page_p2_index(uint64_t start, uint64_t size, uint64_t *out, size_t len);
+uint8_t wuohtan_page_p3_index(uint64_t start, uint64_t size, uint64_t *out, size_t len);
+uint8_t wuohtan_page_p4_index(uint64_t start, uint64_t size, uint64_t *out, size_t len);
+uint8_t wuohtan_page_page_table_index(uint64_t start, uint64_t size, uint64_t level, uint64_t *out, size_t len);
+uint8_t wuohtan_page_from_page_table_indices(uint64_t p4_index, uint64_t p3_index, uint64_t p2_index,
+                                             uint64_t p1_index, uint64_t *out, size_t len);
+uint8_t wuohtan_page_from_page_table_indices_2mib(uint64_t p4_index, uint64_t p3_index, uint64_t p2_index,
+                                                  uint64_t *out, size_t len);
+uint8_t wuohtan_page_from_page_table_indices_1gib(uint64_t p4_index, uint64_t p3_index, uint64_t *out,
+                                                  size_t len);
+uint8_t wuohtan_page_add(uint64_t start, uint64_t size, uint64_t count, uint64_t *out, size_t len);
+uint8_t wuohtan_page_sub(uint64_t start, uint64_t size, uint64_t count, uint64_t *out, size_t len);
+/* page - other, both pages */
+uint8_t wuohtan_page_sub_page(uint64_t start, uint64_t size, uint64_t other, uint64_t other_size, uint64_t *out,
+                              size_t len);
+uint8_t wuohtan_page_forward_checked(uint64_t start, uint64_t size, uint64_t count, uint64_t *out, size_t len);
+uint8_t wuohtan_page_backward_checked(uint64_t start, uint64_t size, uint64_t count, uint64_t *out, size_t len);
+uint8_t wuohtan_page_steps_between_u64(uint64_t start, uint64_t size, uint64_t end, uint64_t end_size,
+                                       uint64_t *out, size_t len);
 
 #ifdef __cplusplus
 }

@@ -2,11 +2,12 @@
 use Prim.Native.Nat.{ℕ, _+_, _-_, _%_, _^_}
 use mathlib.Core.Bool.{Bool}
 use lib.Dec.{ltb, leb, eqb}
-use Rattle.laws.specs.Outcome.{Outcome, gives, unless, andThen}
-use Rattle.laws.specs.Refusal.{notCanonical, notPhysical, notPowerOfTwo, overflow, resultNotCanonical, resultNotPhysical}
+use Rattle.answer.specs.Outcome.{Outcome, gives, unless, andThen}
+use Rattle.answer.specs.Refusal.{notCanonical, notPhysical, notPowerOfTwo, overflow, resultNotCanonical, resultNotPhysical}
 use Rattle.laws.specs.Width.{canonical, signExtend}
 use Rattle.laws.specs.Steps.{forward, backward, steps}
 use Rattle.laws.specs.Align.{powerOfTwo, up}
+use Rattle.laws.specs.Index.{index, offset}
 use Rattle.addr.specs.Align.{alignDown, alignUp}
 
 -- which numbers are addresses, and the refusals of an argument and of a result that is none
@@ -39,11 +40,17 @@ abbrev pub isAligned : Space → ℕ → ℕ → Outcome Bool
 isAligned s a n = given s a (unless notPowerOfTwo (powerOfTwo n) (gives (eqb (a % n) 0)))
 
 -- "`+` and `-` with a count: 5 beyond 64 bits or below zero; then 6 .., 8 .."
+abbrev pub sum : Space → ℕ → ℕ → Outcome ℕ
+sum s a n = unless overflow (ltb (a + n) (2 ^ 64)) (unless (s .result) (s .holds (a + n)) (gives (a + n)))
+
+abbrev pub difference : Space → ℕ → ℕ → Outcome ℕ
+difference s a n = unless overflow (leb n a) (unless (s .result) (s .holds (a - n)) (gives (a - n)))
+
 abbrev pub plus : Space → ℕ → ℕ → Outcome ℕ
-plus s a n = given s a (unless overflow (ltb (a + n) (2 ^ 64)) (unless (s .result) (s .holds (a + n)) (gives (a + n))))
+plus s a n = given s a (sum s a n)
 
 abbrev pub minus : Space → ℕ → ℕ → Outcome ℕ
-minus s a n = given s a (unless overflow (leb n a) (unless (s .result) (s .holds (a - n)) (gives (a - n))))
+minus s a n = given s a (difference s a n)
 
 -- "Address minus address: 5 below zero."
 abbrev pub distance : Space → ℕ → ℕ → Outcome ℕ
@@ -76,3 +83,10 @@ backwardFrom w s n = given (virt w) s (backward w s n)
 
 abbrev pub stepsBetween : ℕ → ℕ → ℕ → Outcome ℕ
 stepsBetween w s e = given (virt w) s (given (virt w) e (steps w s e))
+
+-- "the offset is bits 0 to 11"; "The index at a level is nine bits from bit 12 + 9 × (level − 1)"
+abbrev pub pageOffset : ℕ → ℕ → Outcome ℕ
+pageOffset w a = given (virt w) a (gives (offset a))
+
+abbrev pub tableIndex : ℕ → ℕ → ℕ → Outcome ℕ
+tableIndex w a l = given (virt w) a (gives (index l a))

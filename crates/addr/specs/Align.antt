@@ -1,8 +1,8 @@
 -- What alignment of a number answers. Document 01, "Addresses": "`align_down`, `align_up`: 4 if the alignment isn't a power of two"; 5 "if the number rounded up .. is 2^64".
 use Prim.Native.Nat.{ℕ, _^_}
 use lib.Dec.{ltb}
-use Rattle.laws.specs.Outcome.{Outcome, gives, unless}
-use Rattle.laws.specs.Refusal.{notPowerOfTwo, overflow}
+use Rattle.answer.specs.Outcome.{Outcome, gives, unless}
+use Rattle.answer.specs.Refusal.{notPowerOfTwo, overflow}
 use Rattle.laws.specs.Align.{powerOfTwo, down, up}
 
 abbrev pub alignDown : ℕ → ℕ → Outcome ℕ

@@ -2,3 +2,4 @@ pub mod Answers
 pub mod Widths
 pub mod Align
 pub mod Address
+pub mod Item

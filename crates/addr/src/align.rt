@@ -1,12 +1,12 @@
 // Alignment of plain numbers.
-use crate::answer::U64Answer;
-use crate::refusal::NOT_POWER_OF_TWO;
-use crate::refusal::OVERFLOW;
+use answer::NOT_POWER_OF_TWO;
+use answer::OVERFLOW;
+use answer::U64Answer;
 ghost use mathlib.Core.Path.{_≡_};
 ghost use mathlib.Core.Bool.{true};
 ghost use Prim.Native.Nat.{_+_, _%_};
 ghost use Rattle.laws.specs.Align.{powerOfTwo, up};
-ghost use Rattle.addr.specs.Answers.{u64Of};
+ghost use Rattle.answer.specs.Answers.{u64Of};
 ghost use Rattle.addr.specs.Align.{alignDown, alignUp};
 
 // Whether just one bit of the alignment is set.

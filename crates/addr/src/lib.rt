@@ -4,24 +4,14 @@
 // address handed in whose number is no address is refused first, in argument order: `VirtAddr` and
 // `PhysAddr` are plain data, and nothing but the call itself tests what they hold.
 mod align;
-mod answer;
 mod phys_addr;
-mod refusal;
 mod virt_addr;
 mod width;
 
 pub use align::align_down;
 pub use align::align_up;
-pub use answer::BoolAnswer;
-pub use answer::U64Answer;
 pub use phys_addr::PhysAddr;
 pub use phys_addr::PhysAnswer;
-pub use refusal::NOT_CANONICAL;
-pub use refusal::NOT_PHYSICAL;
-pub use refusal::NOT_POWER_OF_TWO;
-pub use refusal::OVERFLOW;
-pub use refusal::RESULT_NOT_CANONICAL;
-pub use refusal::RESULT_NOT_PHYSICAL;
 pub use virt_addr::VirtAddr;
 pub use virt_addr::VirtAnswer;
 pub use width::Width;

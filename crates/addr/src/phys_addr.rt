@@ -2,15 +2,16 @@
 use crate::align::is_power_of_two;
 use crate::align::padding;
 use crate::align::rest;
-use crate::answer::BoolAnswer;
-use crate::answer::U64Answer;
-use crate::refusal::NOT_PHYSICAL;
-use crate::refusal::NOT_POWER_OF_TWO;
-use crate::refusal::OVERFLOW;
-use crate::refusal::RESULT_NOT_PHYSICAL;
+use answer::BoolAnswer;
+use answer::NOT_PHYSICAL;
+use answer::NOT_POWER_OF_TWO;
+use answer::OVERFLOW;
+use answer::RESULT_NOT_PHYSICAL;
+use answer::U64Answer;
 ghost use mathlib.Core.Path.{_≡_};
 ghost use Prim.Native.Nat.{_%_, _^_};
-ghost use Rattle.addr.specs.Answers.{physOf, u64Of, boolOf};
+ghost use Rattle.answer.specs.Answers.{u64Of, boolOf};
+ghost use Rattle.addr.specs.Answers.{physOf};
 ghost use Rattle.addr.specs.Address.{phys, address, isNull, isAligned, plus, minus, distance, alignDownPhys, alignUpPhys};
 
 // How many physical addresses there are: 2^52.

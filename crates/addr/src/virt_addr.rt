@@ -2,18 +2,25 @@
 use crate::align::is_power_of_two;
 use crate::align::padding;
 use crate::align::rest;
-use crate::answer::BoolAnswer;
-use crate::answer::U64Answer;
-use crate::refusal::NOT_CANONICAL;
-use crate::refusal::NOT_POWER_OF_TWO;
-use crate::refusal::OVERFLOW;
-use crate::refusal::RESULT_NOT_CANONICAL;
 use crate::width::Width;
+use answer::BoolAnswer;
+use answer::NOT_CANONICAL;
+use answer::NOT_POWER_OF_TWO;
+use answer::OVERFLOW;
+use answer::RESULT_NOT_CANONICAL;
+use answer::U64Answer;
+use table::IndexAnswer;
+use table::OffsetAnswer;
+use table::PageOffset;
+use table::PageTableLevel;
 ghost use mathlib.Core.Path.{_≡_};
 ghost use Rattle.laws.specs.Width.{signExtend};
-ghost use Rattle.addr.specs.Answers.{virtOf, u64Of, boolOf};
+ghost use Rattle.answer.specs.Answers.{u64Of, boolOf};
+ghost use Rattle.table.specs.Answers.{indexOf, offsetOf};
+ghost use Rattle.table.specs.Level.{levelOf};
+ghost use Rattle.addr.specs.Answers.{virtOf};
 ghost use Rattle.addr.specs.Widths.{widthOf};
-ghost use Rattle.addr.specs.Address.{virt, address, isNull, isAligned, plus, minus, distance, alignDownVirt, alignUpVirt, forwardFrom, backwardFrom, stepsBetween};
+ghost use Rattle.addr.specs.Address.{virt, address, isNull, isAligned, plus, minus, distance, alignDownVirt, alignUpVirt, forwardFrom, backwardFrom, stepsBetween, pageOffset, tableIndex};
 
 pub struct VirtAddr(pub u64);
 
@@ -217,6 +224,28 @@ impl Width {
         }
         U64Answer::Value(high - low)
     }
+
+    // The address's offset in its 4 KiB page.
+    pub fn page_offset(self, addr: VirtAddr) -> OffsetAnswer
+        ensures { λ r. ⌜ offsetOf r ≡ pageOffset (widthOf self) (addr .0) ⌝ }
+    {
+        let a = addr.0;
+        if !self.is_canonical(a) {
+            return OffsetAnswer::Refused(NOT_CANONICAL);
+        }
+        OffsetAnswer::Offset(PageOffset::new_truncate(a))
+    }
+
+    // The address's index into the table of a level.
+    pub fn page_table_index(self, addr: VirtAddr, level: PageTableLevel) -> IndexAnswer
+        ensures { λ r. ⌜ indexOf r ≡ tableIndex (widthOf self) (addr .0) (levelOf level) ⌝ }
+    {
+        let a = addr.0;
+        if !self.is_canonical(a) {
+            return IndexAnswer::Refused(NOT_CANONICAL);
+        }
+        IndexAnswer::Index(level.index_of(a))
+    }
 }
 
 impl VirtAddr {
@@ -314,5 +343,41 @@ impl VirtAddr {
         ensures { λ r. ⌜ u64Of r ≡ stepsBetween 48 (start .0) (end .0) ⌝ }
     {
         Width::Bits48.steps_between_u64(start, end)
+    }
+
+    pub fn page_offset(self) -> OffsetAnswer
+        ensures { λ r. ⌜ offsetOf r ≡ pageOffset 48 (self .0) ⌝ }
+    {
+        Width::Bits48.page_offset(self)
+    }
+
+    pub fn p1_index(self) -> IndexAnswer
+        ensures { λ r. ⌜ indexOf r ≡ tableIndex 48 (self .0) 1 ⌝ }
+    {
+        Width::Bits48.page_table_index(self, PageTableLevel::One)
+    }
+
+    pub fn p2_index(self) -> IndexAnswer
+        ensures { λ r. ⌜ indexOf r ≡ tableIndex 48 (self .0) 2 ⌝ }
+    {
+        Width::Bits48.page_table_index(self, PageTableLevel::Two)
+    }
+
+    pub fn p3_index(self) -> IndexAnswer
+        ensures { λ r. ⌜ indexOf r ≡ tableIndex 48 (self .0) 3 ⌝ }
+    {
+        Width::Bits48.page_table_index(self, PageTableLevel::Three)
+    }
+
+    pub fn p4_index(self) -> IndexAnswer
+        ensures { λ r. ⌜ indexOf r ≡ tableIndex 48 (self .0) 4 ⌝ }
+    {
+        Width::Bits48.page_table_index(self, PageTableLevel::Four)
+    }
+
+    pub fn page_table_index(self, level: PageTableLevel) -> IndexAnswer
+        ensures { λ r. ⌜ indexOf r ≡ tableIndex 48 (self .0) (levelOf level) ⌝ }
+    {
+        Width::Bits48.page_table_index(self, level)
     }
 }

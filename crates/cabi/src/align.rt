@@ -1,10 +1,10 @@
 // Alignment of plain numbers.
-use crate::convention::give_u64;
 use addr::align_down;
 use addr::align_up;
+use convention::give_u64;
 ghost use mathlib.Core.Path.{_≡_};
 ghost use Rattle.addr.specs.Align.{alignDown, alignUp};
-ghost use Rattle.cabi.specs.Convention.{left, leaves, word};
+ghost use Rattle.convention.specs.Convention.{left, leaves, word};
 
 #[no_mangle]
 pub extern "C" fn wuohtan_align_down(addr: u64, align: u64, out: &mut [u64]) -> u8

@@ -1,8 +1,8 @@
-// The C interface, for the kernel and the bench reader: include/wuohtan.h declares it.
-//
-// One convention: numbers go in by value; the answer's words are stored in a lent slice, and the
-// status says whether there are any.
+// The C interface, for the kernel and the bench reader: include/wuohtan.h declares it. Each function
+// here is one call of the library, its arguments and its answer in the convention's form.
 pub mod align;
-mod convention;
+pub mod frames;
+pub mod pages;
 pub mod phys_addr;
+pub mod tables;
 pub mod virt_addr;

@@ -1,15 +1,15 @@
 // Physical addresses, as numbers.
-use crate::convention::give;
-use crate::convention::give_bool;
-use crate::convention::give_phys;
-use crate::convention::give_u64;
 use addr::PhysAddr;
+use convention::give;
+use convention::give_bool;
+use convention::give_phys;
+use convention::give_u64;
 ghost use mathlib.Core.Path.{_≡_};
 ghost use mathlib.Core.List.{[], _∷_};
-ghost use Rattle.laws.specs.Outcome.{gives};
+ghost use Rattle.answer.specs.Outcome.{gives};
 ghost use Prim.Native.Nat.{_%_, _^_};
 ghost use Rattle.addr.specs.Address.{phys, address, isNull, isAligned, plus, minus, distance, alignDownPhys, alignUpPhys};
-ghost use Rattle.cabi.specs.Convention.{left, leaves, word, truth};
+ghost use Rattle.convention.specs.Convention.{left, leaves, word, truth};
 
 #[no_mangle]
 pub extern "C" fn wuohtan_phys_addr_new(addr: u64, out: &mut [u64]) -> u8

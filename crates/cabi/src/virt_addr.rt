@@ -1,15 +1,21 @@
 // Virtual addresses, as numbers.
-use crate::convention::give;
-use crate::convention::give_bool;
-use crate::convention::give_u64;
-use crate::convention::give_virt;
 use addr::VirtAddr;
+use convention::NO_SUCH_CHOICE;
+use convention::choose_level;
+use convention::give;
+use convention::give_bool;
+use convention::give_index;
+use convention::give_offset;
+use convention::give_u64;
+use convention::give_virt;
+use table::LevelAnswer;
 ghost use mathlib.Core.Path.{_≡_};
 ghost use mathlib.Core.List.{[], _∷_};
-ghost use Rattle.laws.specs.Outcome.{gives};
+ghost use Rattle.answer.specs.Outcome.{gives};
 ghost use Rattle.laws.specs.Width.{signExtend};
-ghost use Rattle.addr.specs.Address.{virt, address, isNull, isAligned, plus, minus, distance, alignDownVirt, alignUpVirt, forwardFrom, backwardFrom, stepsBetween};
-ghost use Rattle.cabi.specs.Convention.{left, leaves, word, truth};
+ghost use Rattle.addr.specs.Address.{virt, address, isNull, isAligned, plus, minus, distance, alignDownVirt, alignUpVirt, forwardFrom, backwardFrom, stepsBetween, pageOffset, tableIndex};
+ghost use Rattle.convention.specs.Convention.{left, leaves, word, truth};
+ghost use Rattle.convention.specs.Choice.{atLevel};
 
 #[no_mangle]
 pub extern "C" fn wuohtan_virt_addr_new(addr: u64, out: &mut [u64]) -> u8
@@ -125,4 +131,49 @@ pub extern "C" fn wuohtan_virt_addr_steps_between_u64(start: u64, end: u64, out:
         VirtAddr::steps_between_u64(VirtAddr(start), VirtAddr(end)),
         out,
     )
+}
+
+#[no_mangle]
+pub extern "C" fn wuohtan_virt_addr_page_offset(addr: u64, out: &mut [u64]) -> u8
+    ensures { λ r. ⌜ left r (now (out .exit)) ≡ leaves (word (pageOffset 48 addr)) (now (out .entry)) ⌝ }
+{
+    give_offset(VirtAddr(addr).page_offset(), out)
+}
+
+#[no_mangle]
+pub extern "C" fn wuohtan_virt_addr_p1_index(addr: u64, out: &mut [u64]) -> u8
+    ensures { λ r. ⌜ left r (now (out .exit)) ≡ leaves (word (tableIndex 48 addr 1)) (now (out .entry)) ⌝ }
+{
+    give_index(VirtAddr(addr).p1_index(), out)
+}
+
+#[no_mangle]
+pub extern "C" fn wuohtan_virt_addr_p2_index(addr: u64, out: &mut [u64]) -> u8
+    ensures { λ r. ⌜ left r (now (out .exit)) ≡ leaves (word (tableIndex 48 addr 2)) (now (out .entry)) ⌝ }
+{
+    give_index(VirtAddr(addr).p2_index(), out)
+}
+
+#[no_mangle]
+pub extern "C" fn wuohtan_virt_addr_p3_index(addr: u64, out: &mut [u64]) -> u8
+    ensures { λ r. ⌜ left r (now (out .exit)) ≡ leaves (word (tableIndex 48 addr 3)) (now (out .entry)) ⌝ }
+{
+    give_index(VirtAddr(addr).p3_index(), out)
+}
+
+#[no_mangle]
+pub extern "C" fn wuohtan_virt_addr_p4_index(addr: u64, out: &mut [u64]) -> u8
+    ensures { λ r. ⌜ left r (now (out .exit)) ≡ leaves (word (tableIndex 48 addr 4)) (now (out .entry)) ⌝ }
+{
+    give_index(VirtAddr(addr).p4_index(), out)
+}
+
+#[no_mangle]
+pub extern "C" fn wuohtan_virt_addr_page_table_index(addr: u64, level: u64, out: &mut [u64]) -> u8
+    ensures { λ r. ⌜ left r (now (out .exit)) ≡ leaves (atLevel level (word (tableIndex 48 addr level))) (now (out .entry)) ⌝ }
+{
+    let LevelAnswer::Level(l) = choose_level(level) else {
+        return NO_SUCH_CHOICE;
+    };
+    give_index(VirtAddr(addr).page_table_index(l), out)
 }

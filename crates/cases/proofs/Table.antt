@@ -1,9 +1,9 @@
 -- The table holds: by computing, with powers of two known by their one bit.
-use Prim.Native.Nat.{ℕ, _^_}
 use mathlib.Core.Path.{_≡_, refl}
 use mathlib.Core.Bool.{true}
-use borrow.Author.Tests.{eq-eqb}
+use Prim.Native.Nat.{ℕ, _^_}
 use lib.Count.{ones}
+use borrow.Author.Tests.{eq-eqb}
 use Rattle.laws.specs.Align.{powerOfTwo, up}
 use Rattle.laws.specs.Width.{signExtend}
 use Rattle.laws.specs.Steps.{forward, steps}
@@ -26,4 +26,14 @@ table =
       d-back = refl;
       e-jump = rw (power 12);
       e-zero = rw (power 48);
+      f-level-4 = refl;
+      f-level-3 = refl;
+      f-level-2 = refl;
+      f-level-1 = refl;
+      f-offset = refl;
+      g-4-kib = refl;
+      g-2-mib = refl;
+      g-1-gib = refl;
+      edge-last = refl;
+      edge-past = refl;
     }

@@ -2,9 +2,11 @@
 -- each answer by the same definitions.
 use Prim.Native.Nat.{_-_, _^_}
 use mathlib.Core.Path.{_≡_}
-use Rattle.laws.specs.Outcome.{gives, none, refuses}
+use Rattle.answer.specs.Outcome.{gives, none, refuses}
 use Rattle.laws.specs.Width.{signExtend}
-use Rattle.addr.specs.Address.{virt, plus, alignUpVirt, forwardFrom, stepsBetween}
+use Rattle.addr.specs.Address.{virt, plus, alignUpVirt, forwardFrom, stepsBetween, tableIndex, pageOffset}
+use Rattle.addr.specs.Item.{item}
+use Rattle.frame.specs.Frame.{pfnOf, fromPfn}
 
 pub record Table : Type 0 where
   -- A truncate 8000_0000_0000: ffff_8000_0000_0000
@@ -21,3 +23,16 @@ pub record Table : Type 0 where
   -- E align_up(7fff_ffff_f001, 1000): ffff_8000_0000_0000; align_up(1, 2^48): 0
   pub e-jump : alignUpVirt 48 0x7fff_ffff_f001 0x1000 ≡ gives 0xffff_8000_0000_0000
   pub e-zero : alignUpVirt 48 1 (2 ^ 48) ≡ gives 0
+  -- F ffff_8000_0020_3456: indices 256, 0, 1, 3 (decimal), offset 456
+  pub f-level-4 : tableIndex 48 0xffff_8000_0020_3456 4 ≡ gives 256
+  pub f-level-3 : tableIndex 48 0xffff_8000_0020_3456 3 ≡ gives 0
+  pub f-level-2 : tableIndex 48 0xffff_8000_0020_3456 2 ≡ gives 1
+  pub f-level-1 : tableIndex 48 0xffff_8000_0020_3456 1 ≡ gives 3
+  pub f-offset : pageOffset 48 0xffff_8000_0020_3456 ≡ gives 0x456
+  -- G frame c000_0000: numbers c0000, 600, 3 at 4 KiB, 2 MiB, 1 GiB
+  pub g-4-kib : pfnOf 0xc000_0000 0x1000 ≡ gives 0xc0000
+  pub g-2-mib : pfnOf 0xc000_0000 0x20_0000 ≡ gives 0x600
+  pub g-1-gib : pfnOf 0xc000_0000 0x4000_0000 ≡ gives 3
+  -- "Edges: 2^40 − 1 is a 4 KiB frame number, 2^40 isn't."
+  pub edge-last : fromPfn (2 ^ 40 - 1) 0x1000 ≡ gives (item (2 ^ 52 - 0x1000) 0x1000)
+  pub edge-past : fromPfn (2 ^ 40) 0x1000 ≡ refuses 12

@@ -1,10 +1,10 @@
 -- Laws of alignment: powers of two by their count of ones, the multiples on both sides of a number, and the mask that finds them.
-use Prim.Native.Nat.{ℕ, zero, suc, _+_, _-_, _*_, _/_, _%_, _^_, _≤_, _<_}
-use mathlib.Core.Path.{_≡_, refl, sym, ap, _∙_}
+use mathlib.Core.Path.{_≡_, refl, ap, _∙_}
 use mathlib.Core.Logic.{_↔_}
+use Prim.Native.Nat.{ℕ, zero, suc, _+_, _-_, _*_, _/_, _%_, _^_, _≤_, _<_}
 use native.Mathlib.Omega.{arith}
 use native.Mathlib.Decide.{decLt}
-use native.Mathlib.Nat.{pow-suc, div-add-mod', mul-mod-left, mul-le-mul-right, le-div-iff-mul-le, div-eq-of-lt-le, mod-lt, add-mul, one-mul, div-lt-iff-lt-mul}
+use native.Mathlib.Nat.{pow-suc, div-add-mod', mul-mod-left, mul-le-mul-right, le-div-iff-mul-le, div-eq-of-lt-le, mod-lt, add-mul, div-lt-iff-lt-mul, mul-div-cancel}
 use lib.Arith.{bin-ind}
 use lib.Bits.{bitAnd, and-mask}
 use lib.Count.{ones, ones-step, ones-cat}
@@ -94,3 +94,18 @@ up-top n a e f h = go (one→power n e)
         let t : 2 ^ (64 - k + k) ≡ 2 ^ (64 - k) * 2 ^ k = pow-add 2 (64 - k) k in
         let m : 2 ^ 64 ≡ 2 ^ (64 - k) * n = rw (s, ← q) at t in
         rw m (up-least n a (one-bit-pos n e) .2 (2 ^ (64 - k)) (omega arith))
+
+-- whether `n` times `z` is within a bound, by the quotient of the bound
+pub times-past : (n z m : ℕ) → 0 < z → m / z < n → m < n * z
+times-past n z m p h = div-lt-iff-lt-mul p .0 h
+
+pub times-within : (n z m : ℕ) → 0 < z → n ≤ m / z → n * z ≤ m
+times-within n z m p h = le-div-iff-mul-le p .0 h
+
+-- a power of two is a whole number of each smaller one
+pub pow-blocks : (k m : ℕ) → k ≤ m → 2 ^ m / 2 ^ k * 2 ^ k ≡ 2 ^ m
+pow-blocks k m h =
+    let e : m - k + k ≡ m = omega arith in
+    let p : 2 ^ (m - k + k) ≡ 2 ^ (m - k) * 2 ^ k = pow-add 2 (m - k) k in
+    let q : 2 ^ m ≡ 2 ^ (m - k) * 2 ^ k = rw e at p in
+    rw q (ap (λ (x : ℕ). x * 2 ^ k) (mul-div-cancel (2 ^ (m - k)) (pow-pos k)))

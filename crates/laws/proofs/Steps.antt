@@ -1,12 +1,12 @@
 -- Laws of steps, over the width: what each gives, that they undo each other, and that none ends in the gap.
-use Prim.Native.Nat.{ℕ, _+_, _-_, _^_, _≤_, _<_}
-use mathlib.Core.Path.{_≡_, refl, sym, _∙_}
+use mathlib.Core.Path.{_≡_, sym, _∙_}
 use mathlib.Core.Logic.{_↔_}
+use Prim.Native.Nat.{ℕ, _+_, _-_, _^_, _≤_, _<_}
 use native.Mathlib.Omega.{arith}
 use native.Mathlib.Decide.{decLt}
 use native.Mathlib.Nat.{mod-eq-of-lt, add-assoc}
 use borrow.Author.Tests.{lt-ltb, le-ltb, le-leb, lt-leb}
-use Rattle.laws.specs.Outcome.{Outcome, gives, none, andThen}
+use Rattle.answer.specs.Outcome.{gives, none, andThen}
 use Rattle.laws.specs.Width.{IsWidth, low, signExtend, InGap}
 use Rattle.laws.specs.Steps.{forward, backward, steps}
 use Rattle.laws.proofs.Cases.{by-cases}

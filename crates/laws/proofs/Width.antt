@@ -1,15 +1,15 @@
 -- Laws of canonical form, over the width.
-use Prim.Native.Nat.{ℕ, zero, suc, _+_, _-_, _*_, _/_, _%_, _^_, _≤_, _<_}
-use mathlib.Core.Path.{_≡_, refl, sym, ap, _∙_}
+use mathlib.Core.Path.{_≡_, sym, ap, _∙_}
 use mathlib.Core.Logic.{_↔_}
 use mathlib.Core.Bool.{true, false}
+use Prim.Native.Nat.{ℕ, zero, suc, _+_, _-_, _*_, _/_, _%_, _^_, _≤_, _<_}
 use native.Mathlib.Omega.{arith}
 use native.Mathlib.Decide.{decLt}
 use native.Mathlib.Nat.{div-eq-of-lt, div-eq-of-lt-le, mod-lt, mod-eq-of-lt, add-mul-mod-self-right, add-zero, add-suc, zero-add, zero-mul, one-mul, suc-mul, pow-suc}
 use native.Mathlib.Numerals.{add-one}
 use lib.Dec.{leb}
-use borrow.Author.Tests.{eq-eqb, ne-eqb, eqb-true, le-leb, lt-leb}
 use lib.Pow.{pow-pos, pow-mono, pow-add, field, high-ones, mod-pow-add}
+use borrow.Author.Tests.{eq-eqb, ne-eqb, eqb-true, le-leb, lt-leb}
 use Rattle.laws.specs.Width.{IsWidth, bit, low, half, signExtend, canonical, CopiesBit, InGap}
 use Rattle.laws.proofs.Cases.{by-cases}
 

@@ -1,5 +1,5 @@
-pub mod Outcome
-pub mod Refusal
 pub mod Width
 pub mod Steps
 pub mod Align
+pub mod Index
+pub mod Number

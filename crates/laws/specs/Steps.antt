@@ -1,7 +1,7 @@
 -- Steps over canonical addresses of the width `w`, by their low parts: they pass from the low half to the high one.
 use Prim.Native.Nat.{ℕ, _+_, _-_, _^_}
 use lib.Dec.{ltb, leb}
-use Rattle.laws.specs.Outcome.{Outcome, onlyIf}
+use Rattle.answer.specs.Outcome.{Outcome, onlyIf}
 use Rattle.laws.specs.Width.{low, signExtend}
 
 -- "`forward_checked_u64(s, n)` gives t exactly if low48(s) + n < 2^48: t canonical, low48(t) that sum."

@@ -1,21 +1,38 @@
 // A question of the list, asked of the C interface. The operations' numbers are those of
-// oracle/compare/src/operations.rs.
+// oracle/compare/src/operations/.
 use crate::line::Line;
 use cabi::align;
+use cabi::frames;
+use cabi::pages;
 use cabi::phys_addr;
+use cabi::tables;
 use cabi::virt_addr;
 ghost use Prim.Native.Nat.{_≤_};
 
 // A status that no call answers.
-const UNKNOWN: u8 = 253;
+const UNKNOWN: u8 = 252;
 
 // How many arguments the operation has.
 fn arguments(operation: u64) -> usize
-    ensures { λ r. ⌜ r ≤ 2 ⌝ }
+    ensures { λ r. ⌜ r ≤ 4 ⌝ }
 {
     match operation {
         0x13 | 0x23 => 0,
-        0x10 | 0x11 | 0x12 | 0x14 | 0x15 | 0x20 | 0x21 | 0x22 | 0x24 | 0x25 => 1,
+        0x10
+        | 0x11
+        | 0x12
+        | 0x14
+        | 0x15
+        | 0x20
+        | 0x21
+        | 0x22
+        | 0x24
+        | 0x25
+        | 0x30..=0x32
+        | 0x38..=0x3f
+        | 0x40..=0x44 => 1,
+        0x57 | 0x58 | 0x68 | 0x6a | 0x6c | 0x6d | 0x6f | 0x70 => 3,
+        0x59 | 0x69 | 0x6e | 0x71 => 4,
         _ => 2,
     }
 }
@@ -59,12 +76,87 @@ fn ask_phys_addr(operation: u64, a: u64, b: u64, out: &mut [u64]) -> u8 {
     }
 }
 
-fn ask(operation: u64, a: u64, b: u64, out: &mut [u64]) -> u8 {
+fn ask_table(operation: u64, a: u64, b: u64, out: &mut [u64]) -> u8 {
+    match operation {
+        0x30 => tables::wuohtan_page_table_index_new(a, out),
+        0x31 => tables::wuohtan_page_table_index_new_truncate(a, out),
+        0x32 => tables::wuohtan_page_table_index_into_u64(a, out),
+        0x33 => tables::wuohtan_page_table_index_forward_checked(a, b, out),
+        0x34 => tables::wuohtan_page_table_index_backward_checked(a, b, out),
+        0x35 => tables::wuohtan_page_table_index_steps_between(a, b, out),
+        0x38 => tables::wuohtan_page_offset_new(a, out),
+        0x39 => tables::wuohtan_page_offset_new_truncate(a, out),
+        0x3a => tables::wuohtan_page_offset_into_u64(a, out),
+        0x3c => tables::wuohtan_page_table_level_next_lower_level(a, out),
+        0x3d => tables::wuohtan_page_table_level_next_higher_level(a, out),
+        0x3e => tables::wuohtan_page_table_level_table_address_space_alignment(a, out),
+        0x3f => tables::wuohtan_page_table_level_entry_address_space_alignment(a, out),
+        _ => UNKNOWN,
+    }
+}
+
+fn ask_virt_addr_index(operation: u64, a: u64, b: u64, out: &mut [u64]) -> u8 {
+    match operation {
+        0x40 => virt_addr::wuohtan_virt_addr_page_offset(a, out),
+        0x41 => virt_addr::wuohtan_virt_addr_p1_index(a, out),
+        0x42 => virt_addr::wuohtan_virt_addr_p2_index(a, out),
+        0x43 => virt_addr::wuohtan_virt_addr_p3_index(a, out),
+        0x44 => virt_addr::wuohtan_virt_addr_p4_index(a, out),
+        0x45 => virt_addr::wuohtan_virt_addr_page_table_index(a, b, out),
+        _ => UNKNOWN,
+    }
+}
+
+fn ask_frame(operation: u64, a: u64, b: u64, c: u64, d: u64, out: &mut [u64]) -> u8 {
+    match operation {
+        0x50 => frames::wuohtan_phys_frame_from_start_address(a, b, out),
+        0x51 => frames::wuohtan_phys_frame_from_pfn(a, b, out),
+        0x52 => frames::wuohtan_phys_frame_try_from_pfn(a, b, out),
+        0x53 => frames::wuohtan_phys_frame_containing_address(a, b, out),
+        0x54 => frames::wuohtan_phys_frame_start_address(a, b, out),
+        0x55 => frames::wuohtan_phys_frame_size(a, b, out),
+        0x56 => frames::wuohtan_phys_frame_pfn(a, b, out),
+        0x57 => frames::wuohtan_phys_frame_add(a, b, c, out),
+        0x58 => frames::wuohtan_phys_frame_sub(a, b, c, out),
+        0x59 => frames::wuohtan_phys_frame_sub_frame(a, b, c, d, out),
+        _ => UNKNOWN,
+    }
+}
+
+fn ask_page(operation: u64, a: u64, b: u64, c: u64, d: u64, out: &mut [u64]) -> u8 {
+    match operation {
+        0x60 => pages::wuohtan_page_from_start_address(a, b, out),
+        0x61 => pages::wuohtan_page_containing_address(a, b, out),
+        0x62 => pages::wuohtan_page_start_address(a, b, out),
+        0x63 => pages::wuohtan_page_size(a, b, out),
+        0x64 => pages::wuohtan_page_p1_index(a, b, out),
+        0x65 => pages::wuohtan_page_p2_index(a, b, out),
+        0x66 => pages::wuohtan_page_p3_index(a, b, out),
+        0x67 => pages::wuohtan_page_p4_index(a, b, out),
+        0x68 => pages::wuohtan_page_page_table_index(a, b, c, out),
+        0x69 => pages::wuohtan_page_from_page_table_indices(a, b, c, d, out),
+        0x6a => pages::wuohtan_page_from_page_table_indices_2mib(a, b, c, out),
+        0x6b => pages::wuohtan_page_from_page_table_indices_1gib(a, b, out),
+        0x6c => pages::wuohtan_page_add(a, b, c, out),
+        0x6d => pages::wuohtan_page_sub(a, b, c, out),
+        0x6e => pages::wuohtan_page_sub_page(a, b, c, d, out),
+        0x6f => pages::wuohtan_page_forward_checked(a, b, c, out),
+        0x70 => pages::wuohtan_page_backward_checked(a, b, c, out),
+        0x71 => pages::wuohtan_page_steps_between_u64(a, b, c, d, out),
+        _ => UNKNOWN,
+    }
+}
+
+fn ask(operation: u64, a: u64, b: u64, c: u64, d: u64, out: &mut [u64]) -> u8 {
     match operation {
         0x01 => align::wuohtan_align_down(a, b, out),
         0x02 => align::wuohtan_align_up(a, b, out),
         0x10..=0x1f => ask_virt_addr(operation, a, b, out),
         0x20..=0x2f => ask_phys_addr(operation, a, b, out),
+        0x30..=0x3f => ask_table(operation, a, b, out),
+        0x40..=0x4f => ask_virt_addr_index(operation, a, b, out),
+        0x50..=0x5f => ask_frame(operation, a, b, c, d, out),
+        0x60..=0x7f => ask_page(operation, a, b, c, d, out),
         _ => UNKNOWN,
     }
 }
@@ -78,7 +170,14 @@ pub fn agrees(line: Line) -> bool {
         return false;
     }
     let mut out = [0u64; 8];
-    let status = ask(fields[0], fields[1], fields[2], &mut out);
+    let status = ask(
+        fields[0],
+        fields[1],
+        fields[2],
+        fields[3],
+        fields[4],
+        &mut out,
+    );
     if status as u64 != fields[n + 1] {
         return false;
     }

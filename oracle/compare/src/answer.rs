@@ -3,17 +3,21 @@
 use std::fmt;
 
 pub const ANSWERED: u8 = 0;
+pub const NO_SUCH_CHOICE: u8 = 253;
 pub const NO_ROOM: u8 = 254;
 pub const NONE: u8 = 255;
 
 /// The refusals by their numbers in document 01.
 pub const NOT_CANONICAL: u8 = 1;
 pub const NOT_PHYSICAL: u8 = 2;
+pub const NOT_ALIGNED: u8 = 3;
 pub const NOT_POWER_OF_TWO: u8 = 4;
 pub const OVERFLOW: u8 = 5;
 pub const RESULT_NOT_CANONICAL: u8 = 6;
+pub const SIZES_DIFFER: u8 = 7;
 pub const RESULT_NOT_PHYSICAL: u8 = 8;
 pub const INDEX_TOO_LARGE: u8 = 9;
+pub const PFN_TOO_LARGE: u8 = 12;
 
 /// The most words that an answer has.
 pub const MOST_WORDS: usize = 8;
@@ -57,21 +61,6 @@ impl Answer {
     pub fn as_words(&self) -> &[u64] {
         &self.words[..self.count]
     }
-
-    /// Hands the answer over as the port does: by a status, and words only if all have room.
-    #[inline]
-    pub fn give(&self, out: &mut [u64]) -> u8 {
-        if self.status != ANSWERED {
-            return self.status;
-        }
-        match out.get_mut(..self.count) {
-            Some(room) => {
-                room.copy_from_slice(self.as_words());
-                ANSWERED
-            }
-            None => NO_ROOM,
-        }
-    }
 }
 
 impl fmt::Display for Answer {
@@ -83,6 +72,7 @@ impl fmt::Display for Answer {
             }
             NONE => write!(f, "none"),
             NO_ROOM => write!(f, "no room"),
+            NO_SUCH_CHOICE => write!(f, "no such choice"),
             number => write!(f, "refused {number}"),
         }
     }

@@ -66,7 +66,7 @@ fn ask_all(
 
     let rust_agrees = rust.trouble.is_none() && rust.answer.is_none_or(|a| a == model);
     let port_agrees = port.as_ref().is_ok_and(|&a| a == model);
-    let model_agrees = case.is_none_or(|case| (case.answer)() == model);
+    let model_agrees = case.is_none_or(|case| case.answer() == model);
     if rust_agrees && port_agrees && model_agrees {
         return Ok((model, rust.answer.is_some()));
     }
@@ -76,7 +76,7 @@ fn ask_all(
         rust: describe(&rust),
         port: port.map_or_else(|trouble| trouble, |answer| answer.to_string()),
         model: match case {
-            Some(case) => format!("{model}; in case {} {}", case.letter, (case.answer)()),
+            Some(case) => format!("{model}; in case {} {}", case.name, case.answer()),
             None => model.to_string(),
         },
     })

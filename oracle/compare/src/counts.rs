@@ -1,6 +1,9 @@
 //! How many questions were compared and what the answers were, as a table.
 
-use crate::answer::{ANSWERED, NONE};
+use crate::answer::{ANSWERED, NONE, NO_SUCH_CHOICE};
+
+/// The width of the names of functions.
+pub const NAME: usize = 48;
 
 #[derive(Clone)]
 pub struct Counts {
@@ -45,12 +48,16 @@ pub fn print_table(rows: &[(&str, Counts)]) {
         .filter(|&status| total.by_status[usize::from(status)] > 0)
         .collect();
 
-    print!("{:32}", "function");
+    print!("{:NAME$}", "function");
     for title in ["boundary", "drawn", "no Rust", "answered", "none"] {
         print!("{title:>12}");
     }
     for refusal in &refusals {
-        print!("{:>12}", format!("refused {refusal}"));
+        let title = match *refusal {
+            NO_SUCH_CHOICE => "no choice".to_string(),
+            number => format!("refused {number}"),
+        };
+        print!("{title:>12}");
     }
     println!();
     for (name, counts) in rows {
@@ -60,7 +67,7 @@ pub fn print_table(rows: &[(&str, Counts)]) {
 }
 
 fn print_row(name: &str, counts: &Counts, refusals: &[u8]) {
-    print!("{name:32}");
+    print!("{name:NAME$}");
     for count in [counts.boundary, counts.drawn, counts.without_rust] {
         print!("{count:>12}");
     }

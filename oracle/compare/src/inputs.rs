@@ -3,13 +3,14 @@
 pub mod boundary;
 pub mod drawn;
 pub mod generator;
+pub mod sizes;
 
 use crate::operation::Operation;
 use generator::Generator;
 
 /// Up to so many questions all combinations of boundary values are asked; of more, as many drawn
 /// from them.
-const MOST_CROSSED: usize = 1 << 20;
+const MOST_CROSSED: usize = 1 << 17;
 
 /// Hands each question on boundaries to `ask`, until it gives an error.
 pub fn each_boundary<E>(
@@ -25,7 +26,7 @@ pub fn each_boundary<E>(
         _ => {
             let mut generator = Generator::new(operation.number.into());
             let mut one_of_each = || -> Vec<u64> {
-                let picks = values.iter().map(|v| *generator.pick(v));
+                let picks = values.iter().flat_map(|v| generator.pick(v).clone());
                 picks.collect()
             };
             (0..MOST_CROSSED).try_for_each(|_| ask(&one_of_each()))
@@ -33,14 +34,28 @@ pub fn each_boundary<E>(
     }
 }
 
+/// The questions in which every argument is at the end of indices or offsets, all combinations.
+pub fn edges(operation: &Operation) -> Vec<Vec<u64>> {
+    let values: Vec<_> = operation
+        .kinds
+        .iter()
+        .map(|&k| boundary::edges(k))
+        .collect();
+    let all: usize = values.iter().map(Vec::len).product();
+    match values.len() {
+        0 => Vec::new(),
+        _ => (0..all).map(|i| nth(&values, i)).collect(),
+    }
+}
+
 /// Combination i, the last argument changing fastest.
-fn nth(values: &[Vec<u64>], mut i: usize) -> Vec<u64> {
-    let mut args = vec![0; values.len()];
-    for (arg, values) in args.iter_mut().zip(values).rev() {
-        *arg = values[i % values.len()];
+fn nth(values: &[Vec<Vec<u64>>], mut i: usize) -> Vec<u64> {
+    let mut chosen: Vec<&[u64]> = vec![&[]; values.len()];
+    for (argument, values) in chosen.iter_mut().zip(values).rev() {
+        *argument = &values[i % values.len()];
         i /= values.len();
     }
-    args
+    chosen.concat()
 }
 
 /// Hands each of the drawn questions to `ask`, until it gives an error. The same seed gives the
@@ -59,7 +74,7 @@ pub fn each_drawn<E>(
     (0..draws).try_for_each(|_| {
         args.clear();
         for &kind in operation.kinds {
-            args.push(drawn::of(kind, &args, &mut generator));
+            drawn::push(kind, &mut args, &mut generator);
         }
         ask(&args)
     })

@@ -2,45 +2,72 @@
 
 use crate::answer::{Answer, ANSWERED, MOST_WORDS, NO_ROOM};
 
-pub type Zero = unsafe extern "C" fn(*mut u64, usize) -> u8;
-pub type One = unsafe extern "C" fn(u64, *mut u64, usize) -> u8;
-pub type Two = unsafe extern "C" fn(u64, u64, *mut u64, usize) -> u8;
+/// The numbers of arguments that functions have; all that depends on that number is made here.
+macro_rules! arities {
+    ($($name:ident $count:literal ($($arg:ident),*);)*) => {
+        /// A function of the port's convention, by the number of its arguments.
+        #[derive(Clone, Copy)]
+        pub enum Function {
+            $($name(unsafe extern "C" fn($($arg: u64,)* out: *mut u64, len: usize) -> u8),)*
+        }
 
-/// A function of the port's convention, by the number of its arguments.
-#[derive(Clone, Copy)]
-pub enum Function {
-    Zero(Zero),
-    One(One),
-    Two(Two),
-}
+        $(impl Of<$count> {
+            pub const fn function(
+                function: unsafe extern "C" fn($($arg: u64,)* out: *mut u64, len: usize) -> u8,
+            ) -> Function {
+                Function::$name(function)
+            }
+        })*
 
-/// The function, by its arguments.
-#[macro_export]
-macro_rules! function {
-    ($function:path, ()) => {
-        $crate::port::Function::Zero($function)
-    };
-    ($function:path, ($a:ident: $k:ident)) => {
-        $crate::port::Function::One($function)
-    };
-    ($function:path, ($a:ident: $k:ident, $b:ident: $l:ident)) => {
-        $crate::port::Function::Two($function)
-    };
-}
+        impl Function {
+            #[inline]
+            pub fn call(self, args: &[u64], out: &mut [u64]) -> u8 {
+                let (words, len) = (out.as_mut_ptr(), out.len());
+                match (self, args) {
+                    // SAFETY: the function writes to the `len` words at `out` and nothing else.
+                    $((Function::$name(f), &[$($arg),*]) => unsafe { f($($arg,)* words, len) },)*
+                    _ => panic!("a wrong number of arguments"),
+                }
+            }
 
-impl Function {
-    #[inline]
-    pub fn call(self, args: &[u64], out: &mut [u64]) -> u8 {
-        let (words, len) = (out.as_mut_ptr(), out.len());
-        // SAFETY: the function writes to the `len` words at `out` and to nothing else.
-        unsafe {
-            match (self, args) {
-                (Function::Zero(f), &[]) => f(words, len),
-                (Function::One(f), &[a]) => f(a, words, len),
-                (Function::Two(f), &[a, b]) => f(a, b, words, len),
-                _ => panic!("a wrong number of arguments"),
+            /// Calls the function with its arguments in a row, so often. The address of the
+            /// function is not known here, so no call can be left out.
+            #[inline(never)]
+            pub fn call_often(self, calls: usize, args: &[u64], out: &mut [u64; MOST_WORDS]) {
+                let out = out.as_mut_ptr();
+                match self {
+                    $(Function::$name(f) => each(calls, args, |[$($arg),*]: [u64; $count]| {
+                        // SAFETY: as in `call`.
+                        unsafe { f($($arg,)* out, MOST_WORDS) };
+                    }),)*
+                }
             }
         }
+    };
+}
+
+/// Makes the function of so many arguments.
+pub struct Of<const COUNT: usize>;
+
+arities! {
+    Zero 0 ();
+    One 1 (a);
+    Two 2 (a, b);
+    Three 3 (a, b, c);
+    Four 4 (a, b, c, d);
+    Five 5 (a, b, c, d, e);
+    Six 6 (a, b, c, d, e, f6);
+}
+
+/// Calls with N numbers at a time. All that the loop needs has room in registers.
+#[inline(always)]
+fn each<const N: usize>(calls: usize, mut args: &[u64], call: impl Fn([u64; N])) {
+    for _ in 0..calls {
+        let Some((&now, rest)) = args.split_first_chunk() else {
+            return;
+        };
+        call(now);
+        args = rest;
     }
 }
 
@@ -91,54 +118,4 @@ fn ask_with(function: Function, args: &[u64], len: usize, words: usize) -> Resul
         ANSWERED => Answer::words(&out[..words]),
         status => Answer::refused(status),
     })
-}
-
-// The names of the header, in its order.
-extern "C" {
-    pub fn wuohtan_align_down(addr: u64, align: u64, out: *mut u64, len: usize) -> u8;
-    pub fn wuohtan_align_up(addr: u64, align: u64, out: *mut u64, len: usize) -> u8;
-
-    pub fn wuohtan_virt_addr_new(addr: u64, out: *mut u64, len: usize) -> u8;
-    pub fn wuohtan_virt_addr_try_new(addr: u64, out: *mut u64, len: usize) -> u8;
-    pub fn wuohtan_virt_addr_new_truncate(addr: u64, out: *mut u64, len: usize) -> u8;
-    pub fn wuohtan_virt_addr_zero(out: *mut u64, len: usize) -> u8;
-    pub fn wuohtan_virt_addr_as_u64(addr: u64, out: *mut u64, len: usize) -> u8;
-    pub fn wuohtan_virt_addr_is_null(addr: u64, out: *mut u64, len: usize) -> u8;
-    pub fn wuohtan_virt_addr_align_up(addr: u64, align: u64, out: *mut u64, len: usize) -> u8;
-    pub fn wuohtan_virt_addr_align_down(addr: u64, align: u64, out: *mut u64, len: usize) -> u8;
-    pub fn wuohtan_virt_addr_is_aligned(addr: u64, align: u64, out: *mut u64, len: usize) -> u8;
-    pub fn wuohtan_virt_addr_add(addr: u64, count: u64, out: *mut u64, len: usize) -> u8;
-    pub fn wuohtan_virt_addr_sub(addr: u64, count: u64, out: *mut u64, len: usize) -> u8;
-    pub fn wuohtan_virt_addr_sub_addr(addr: u64, other: u64, out: *mut u64, len: usize) -> u8;
-    pub fn wuohtan_virt_addr_forward_checked_u64(
-        start: u64,
-        count: u64,
-        out: *mut u64,
-        len: usize,
-    ) -> u8;
-    pub fn wuohtan_virt_addr_backward_checked_u64(
-        start: u64,
-        count: u64,
-        out: *mut u64,
-        len: usize,
-    ) -> u8;
-    pub fn wuohtan_virt_addr_steps_between_u64(
-        start: u64,
-        end: u64,
-        out: *mut u64,
-        len: usize,
-    ) -> u8;
-
-    pub fn wuohtan_phys_addr_new(addr: u64, out: *mut u64, len: usize) -> u8;
-    pub fn wuohtan_phys_addr_try_new(addr: u64, out: *mut u64, len: usize) -> u8;
-    pub fn wuohtan_phys_addr_new_truncate(addr: u64, out: *mut u64, len: usize) -> u8;
-    pub fn wuohtan_phys_addr_zero(out: *mut u64, len: usize) -> u8;
-    pub fn wuohtan_phys_addr_as_u64(addr: u64, out: *mut u64, len: usize) -> u8;
-    pub fn wuohtan_phys_addr_is_null(addr: u64, out: *mut u64, len: usize) -> u8;
-    pub fn wuohtan_phys_addr_align_up(addr: u64, align: u64, out: *mut u64, len: usize) -> u8;
-    pub fn wuohtan_phys_addr_align_down(addr: u64, align: u64, out: *mut u64, len: usize) -> u8;
-    pub fn wuohtan_phys_addr_is_aligned(addr: u64, align: u64, out: *mut u64, len: usize) -> u8;
-    pub fn wuohtan_phys_addr_add(addr: u64, count: u64, out: *mut u64, len: usize) -> u8;
-    pub fn wuohtan_phys_addr_sub(addr: u64, count: u64, out: *mut u64, len: usize) -> u8;
-    pub fn wuohtan_phys_addr_sub_addr(addr: u64, other: u64, out: *mut u64, len: usize) -> u8;
 }

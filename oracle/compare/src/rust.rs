@@ -3,10 +3,12 @@
 pub mod answers;
 pub mod argument;
 pub mod panics;
+pub mod unasked;
 
 pub use answers::Answers;
-pub use argument::{refused_argument, Argument};
+pub use argument::Argument;
 pub use panics::{refusal, refusal_of_new, silence_caught_panics, Panic};
+pub use unasked::Unasked;
 
 use crate::answer::Answer;
 use crate::kind::Kind;
@@ -23,11 +25,12 @@ pub struct Asked {
     pub trouble: Option<String>,
 }
 
-/// Asks every way. An argument that its constructor refuses is the answer.
+/// Asks every way. What the constructor of an argument refuses is the answer; a level or a size
+/// that there is not can't be said, whatever else is refused.
 pub fn ask(kinds: &[Kind], ways: &[Way], refusal: fn(Panic) -> u8, args: &[u64]) -> Asked {
-    if let Some(number) = refused_argument(kinds, args) {
+    if !argument::has_choices(kinds, args) {
         return Asked {
-            answer: Some(Answer::refused(number)),
+            answer: None,
             panicked: false,
             trouble: None,
         };

@@ -3,21 +3,25 @@
 use std::collections::BTreeMap;
 use std::collections::BTreeSet;
 
-use crate::answer::Answer;
+use crate::answer::{Answer, NO_SUCH_CHOICE};
 use crate::cases;
 use crate::inputs;
 use crate::inputs::generator::Generator;
+use crate::kind;
 use crate::operation::Operation;
 
 /// Never changed, so that the list stays as it is.
 const SEED: u64 = 1;
 const DRAWS: u64 = 20_000;
 
-/// Questions with the oracle's answers: the cases of document 01 and a choice in which each kind of
-/// answer has about the same share, from boundaries and drawn ones.
+/// Questions with the oracle's answers: the cases of document 01, the ends of indices and offsets,
+/// and a choice in which each kind of answer has about the same share, from boundaries and drawn
+/// ones.
 pub fn of(operation: &Operation) -> BTreeMap<Vec<u64>, Answer> {
     let mut chosen: BTreeMap<_, _> = cases::of(operation)
-        .map(|case| (case.args.to_vec(), oracle(operation, case.args)))
+        .map(|case| case.args.to_vec())
+        .chain(inputs::edges(operation))
+        .map(|args| (args.clone(), oracle(operation, &args)))
         .collect();
     let mut pools = pools(operation);
     let size = size(operation);
@@ -33,19 +37,24 @@ pub fn of(operation: &Operation) -> BTreeMap<Vec<u64>, Answer> {
     chosen
 }
 
+/// The functions on addresses, whose numbers are below this one, have more questions.
+const BEHIND_ADDRESSES: u8 = 0x30;
+
 /// How many questions are wanted, by the number of arguments.
 fn size(operation: &Operation) -> usize {
-    match operation.kinds.len() {
-        0 => 1,
-        1 => 80,
-        _ => 250,
+    match (operation.words(), operation.number < BEHIND_ADDRESSES) {
+        (0, _) => 1,
+        (1, true) => 80,
+        (_, true) => 250,
+        (1, false) => 30,
+        (_, false) => 60,
     }
 }
 
 type Pool = Vec<(Vec<u64>, Answer)>;
 
-/// All questions that are chosen from, those on boundaries apart from drawn ones and each kind of
-/// answer apart from the others, every pool in a drawn order.
+/// All questions that are chosen from, those on boundaries apart from drawn ones, each kind of
+/// answer apart from the others and each page size or level as well, every pool in a drawn order.
 fn pools(operation: &Operation) -> Vec<Pool> {
     let mut boundary = BTreeSet::new();
     let mut drawn = BTreeSet::new();
@@ -62,10 +71,8 @@ fn pools(operation: &Operation) -> Vec<Pool> {
         let mut by_kind: BTreeMap<_, Pool> = BTreeMap::new();
         for args in questions {
             let answer = oracle(operation, &args);
-            by_kind
-                .entry(kind(&answer))
-                .or_default()
-                .push((args, answer));
+            let key = (kind_of(&answer), choice(operation, &args, &answer));
+            by_kind.entry(key).or_default().push((args, answer));
         }
         for mut pool in by_kind.into_values() {
             generator.shuffle(&mut pool);
@@ -76,7 +83,7 @@ fn pools(operation: &Operation) -> Vec<Pool> {
 }
 
 /// The status, and of an answer whether its first word is 0, 1, low or high.
-fn kind(answer: &Answer) -> (u8, u8) {
+fn kind_of(answer: &Answer) -> (u8, u8) {
     let word = match answer.as_words().first() {
         None | Some(0) => 0,
         Some(1) => 1,
@@ -84,6 +91,17 @@ fn kind(answer: &Answer) -> (u8, u8) {
         Some(_) => 3,
     };
     (answer.status, word)
+}
+
+/// The first size or level of the question. Those that there are not are all of one kind.
+fn choice(operation: &Operation, args: &[u64], answer: &Answer) -> Option<u64> {
+    if answer.status == NO_SUCH_CHOICE {
+        return None;
+    }
+    kind::split(operation.kinds, args).find_map(|(kind, words)| {
+        let choices = kind.choices(words);
+        choices.level.or(choices.size)
+    })
 }
 
 /// The Rust's answer, or the model's where the Rust has no way to say the question.

@@ -3,7 +3,7 @@
 
 use core::iter::Step;
 
-use crate::structures::paging::{Page, PageSize};
+use crate::structures::paging::{Page, PageSize, PageTableIndex};
 use crate::{PhysAddr, VirtAddr};
 
 /// The three methods of Step, on any type that has them.
@@ -68,4 +68,14 @@ pub fn phys_addr_is_aligned_u64(addr: PhysAddr, align: u64) -> bool {
 #[inline]
 pub fn page_steps_between_u64<S: PageSize>(start: Page<S>, end: Page<S>) -> Option<u64> {
     Page::steps_between_u64(&start, &end)
+}
+
+#[inline]
+pub fn page_forward_checked_impl<S: PageSize>(start: Page<S>, count: u64) -> Option<Page<S>> {
+    Page::forward_checked_impl(start, count as usize)
+}
+
+#[inline]
+pub fn page_table_index_into_u64(index: PageTableIndex) -> u64 {
+    index.into_u64()
 }

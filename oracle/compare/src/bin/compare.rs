@@ -14,7 +14,7 @@ use compare::counts::{self, Counts};
 use compare::operation::Operation;
 use compare::{operations, rust};
 
-const DEFAULT_DRAWS: u64 = 1_000_000;
+const DEFAULT_DRAWS: u64 = 500_000;
 const DEFAULT_SEED: u64 = 1;
 
 fn main() -> ExitCode {

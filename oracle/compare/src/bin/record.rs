@@ -1,7 +1,8 @@
 //! record: prints the replayed list, the oracle's answers to a fixed sample of questions.
 //!
 //! A line for each: `OP ARG.. STATUS VALUE..`, in lower-case hexadecimal without leading zeros.
-//! STATUS is 0 answered, ff none, else the number of the refusal; only an answer has VALUEs.
+//! STATUS is 0 answered, ff none, fd no such choice, else the number of the refusal; only an answer
+//! has VALUEs.
 
 use std::io::{self, BufWriter, Write};
 

@@ -1,14 +1,30 @@
 //! Drawn numbers. Uniform ones alone would almost never be near a boundary or be an address, so
 //! most have a shape.
 
-use super::boundary::PLACES;
+use super::boundary::{LEVELS, PLACES};
 use super::generator::Generator;
+use super::sizes::{last_named, NO_SIZES, SIZES};
 use crate::kind::Kind;
 
-/// A number for an argument of this kind, given those before it.
-pub fn of(kind: Kind, earlier: &[u64], generator: &mut Generator) -> u64 {
+/// Adds an argument of this kind to those before it.
+pub fn push(kind: Kind, args: &mut Vec<u64>, generator: &mut Generator) {
     match kind {
-        Kind::Number => number(generator),
+        Kind::VirtualAndSize
+        | Kind::PhysicalAndSize
+        | Kind::FrameNumber
+        | Kind::Frame
+        | Kind::Page => {
+            let size = size(args, generator);
+            let number = of_size(kind, size, args, generator);
+            args.extend([number, size]);
+        }
+        _ => args.push(of(kind, args, generator)),
+    }
+}
+
+/// The number of an argument that has one, given those before it.
+fn of(kind: Kind, earlier: &[u64], generator: &mut Generator) -> u64 {
+    match kind {
         Kind::Virtual => {
             let number = near_earlier(earlier, generator);
             match generator.below(16) {
@@ -32,6 +48,95 @@ pub fn of(kind: Kind, earlier: &[u64], generator: &mut Generator) -> u64 {
             1 => distance_to_place(earlier, generator),
             _ => number(generator),
         },
+        Kind::Items => items(earlier, generator),
+        Kind::Index => mostly_below(512, generator),
+        Kind::Offset => mostly_below(4096, generator),
+        Kind::Small => match generator.below(4) {
+            0 => mostly_below(512, generator),
+            1 => mostly_below(4096, generator),
+            2 => mostly_below(1 << 16, generator),
+            _ => number(generator),
+        },
+        Kind::Level => match generator.below(16) {
+            0 => *generator.pick(&LEVELS),
+            1 => number(generator),
+            _ => 1 + generator.below(4),
+        },
+        _ => number(generator),
+    }
+}
+
+/// A page size, mostly that of the arguments before, seldom none.
+fn size(earlier: &[u64], generator: &mut Generator) -> u64 {
+    match (generator.below(64), last_named(earlier)) {
+        (0, _) => *generator.pick(&NO_SIZES),
+        (1, _) => number(generator),
+        (2..8, _) | (_, None) => *generator.pick(&SIZES),
+        (_, Some(size)) => size,
+    }
+}
+
+/// The number that goes with a size.
+fn of_size(kind: Kind, size: u64, earlier: &[u64], generator: &mut Generator) -> u64 {
+    let number = match generator.below(4) {
+        0 => few_items_from(*generator.pick(&PLACES), size, generator),
+        1 if !earlier.is_empty() => {
+            let place = *generator.pick(earlier);
+            few_items_from(place, size, generator)
+        }
+        _ => number(generator),
+    };
+    let an_address = generator.below(16) > 0;
+    let a_start = generator.below(16) > 0;
+    match kind {
+        Kind::FrameNumber => items(&[0, size], generator),
+        Kind::VirtualAndSize if an_address => sign_extended(number),
+        Kind::PhysicalAndSize if an_address => number % (1 << 52),
+        Kind::Page if an_address && a_start => rounded_down(sign_extended(number), size),
+        Kind::Page if an_address => sign_extended(number),
+        Kind::Frame if an_address && a_start => rounded_down(number % (1 << 52), size),
+        Kind::Frame if an_address => number % (1 << 52),
+        Kind::Page | Kind::Frame if a_start => rounded_down(number, size),
+        _ => number,
+    }
+}
+
+fn rounded_down(number: u64, size: u64) -> u64 {
+    number - number.checked_rem(size).unwrap_or(0)
+}
+
+/// A place, or some items of this size before or behind it.
+fn few_items_from(place: u64, size: u64, generator: &mut Generator) -> u64 {
+    let distance = small(generator).wrapping_mul(size);
+    match generator.below(3) {
+        0 => place.wrapping_add(distance),
+        1 => place.wrapping_sub(distance),
+        _ => near(place, generator),
+    }
+}
+
+/// A number of items of the size before it: few, as many as lead to near a boundary, or as many as
+/// a number of some shape has.
+fn items(earlier: &[u64], generator: &mut Generator) -> u64 {
+    let size = last_named(earlier).unwrap_or(1);
+    match generator.below(8) {
+        0 | 1 => small(generator),
+        2..5 => {
+            let count = distance_to_place(earlier, generator) / size;
+            count.wrapping_add(generator.below(3)).wrapping_sub(1)
+        }
+        5 => near(((1 << 64) / u128::from(size)) as u64, generator),
+        6 => number(generator) / size,
+        _ => number(generator),
+    }
+}
+
+/// Mostly a number below the bound, else one near it or of some shape.
+fn mostly_below(bound: u64, generator: &mut Generator) -> u64 {
+    match generator.below(16) {
+        0 => near(bound, generator),
+        1 => number(generator),
+        _ => generator.below(bound),
     }
 }
 

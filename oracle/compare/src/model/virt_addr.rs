@@ -17,7 +17,7 @@ fn low48(number: u128) -> u128 {
 }
 
 /// The canonical address with this low48.
-fn canonical_of(low48: u128) -> u128 {
+pub fn canonical_of(low48: u128) -> u128 {
     if low48 <= LAST_LOW {
         low48
     } else {
@@ -122,10 +122,11 @@ pub fn backward_checked_u64(start: u128, count: u128) -> Answer {
     }
 }
 
+/// How far the end lies above the start, in the low 48 bits.
+pub fn steps(start: u128, end: u128) -> Option<u128> {
+    low48(end).checked_sub(low48(start))
+}
+
 pub fn steps_between_u64(start: u128, end: u128) -> Answer {
-    if low48(end) >= low48(start) {
-        answered(low48(end) - low48(start))
-    } else {
-        Answer::none()
-    }
+    steps(start, end).map_or(Answer::none(), answered)
 }

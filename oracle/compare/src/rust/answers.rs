@@ -1,68 +1,112 @@
 //! What the Rust gives, as answers.
 
-use x86_64::addr::{PhysAddrNotValid, VirtAddrNotValid};
+use x86_64::structures::paging::page_table::PageTableLevel;
+use x86_64::structures::paging::{Page, PageOffset, PageSize, PageTableIndex, PhysFrame};
 use x86_64::{PhysAddr, VirtAddr};
 
-use crate::answer::{Answer, NOT_CANONICAL, NOT_PHYSICAL};
+use super::Unasked;
+use crate::answer::{Answer, ANSWERED, MOST_WORDS, NONE, NO_ROOM};
 
 /// A type that the Rust gives, as an answer.
-pub trait Answers {
-    fn answer(self) -> Answer;
+pub trait Answers: Sized {
+    /// How many words the answer has.
+    const WORDS: usize;
 
-    #[inline]
-    fn reply(self) -> Option<Answer>
-    where
-        Self: Sized,
-    {
-        Some(self.answer())
+    /// Hands the answer over as the port does: by a status, and words only if all have room.
+    /// `None` where the Rust has no way to say the question.
+    fn give(self, out: &mut [u64]) -> Option<u8>;
+
+    fn reply(self) -> Option<Answer> {
+        let mut out = [0; MOST_WORDS];
+        let status = self.give(&mut out)?;
+        Some(match status {
+            ANSWERED => Answer::words(&out[..Self::WORDS]),
+            status => Answer::refused(status),
+        })
     }
 }
 
 impl Answers for u64 {
-    #[inline]
-    fn answer(self) -> Answer {
-        Answer::words(&[self])
-    }
-}
+    const WORDS: usize = 1;
 
-impl Answers for bool {
     #[inline]
-    fn answer(self) -> Answer {
-        Answer::words(&[u64::from(self)])
-    }
-}
-
-impl Answers for VirtAddr {
-    #[inline]
-    fn answer(self) -> Answer {
-        self.as_u64().answer()
-    }
-}
-
-impl Answers for PhysAddr {
-    #[inline]
-    fn answer(self) -> Answer {
-        self.as_u64().answer()
+    fn give(self, out: &mut [u64]) -> Option<u8> {
+        match out {
+            [word, ..] => {
+                *word = self;
+                Some(ANSWERED)
+            }
+            [] => Some(NO_ROOM),
+        }
     }
 }
 
 impl<T: Answers> Answers for Option<T> {
+    const WORDS: usize = T::WORDS;
+
     #[inline]
-    fn answer(self) -> Answer {
-        self.map_or(Answer::none(), T::answer)
+    fn give(self, out: &mut [u64]) -> Option<u8> {
+        match self {
+            Some(given) => given.give(out),
+            None => Some(NONE),
+        }
     }
 }
 
-impl Answers for Result<VirtAddr, VirtAddrNotValid> {
+impl<T: Answers, E: Into<Unasked>> Answers for Result<T, E> {
+    const WORDS: usize = T::WORDS;
+
     #[inline]
-    fn answer(self) -> Answer {
-        self.map_or(Answer::refused(NOT_CANONICAL), VirtAddr::answer)
+    fn give(self, out: &mut [u64]) -> Option<u8> {
+        match self.map_err(E::into) {
+            Ok(given) => given.give(out),
+            Err(Unasked::Refused(number)) => Some(number),
+            Err(Unasked::NoWay) => None,
+        }
     }
 }
 
-impl Answers for Result<PhysAddr, PhysAddrNotValid> {
+impl<S: PageSize> Answers for Page<S> {
+    const WORDS: usize = 1;
+
     #[inline]
-    fn answer(self) -> Answer {
-        self.map_or(Answer::refused(NOT_PHYSICAL), PhysAddr::answer)
+    fn give(self, out: &mut [u64]) -> Option<u8> {
+        self.start_address().give(out)
     }
+}
+
+impl<S: PageSize> Answers for PhysFrame<S> {
+    const WORDS: usize = 1;
+
+    #[inline]
+    fn give(self, out: &mut [u64]) -> Option<u8> {
+        self.start_address().give(out)
+    }
+}
+
+/// Types that are answered as a number.
+macro_rules! answered_as {
+    ($($type:ty: |$given:ident| $number:expr;)*) => {$(
+        impl Answers for $type {
+            const WORDS: usize = 1;
+
+            #[inline]
+            fn give(self, out: &mut [u64]) -> Option<u8> {
+                let $given = self;
+                u64::give($number, out)
+            }
+        }
+    )*};
+}
+
+answered_as! {
+    bool: |truth| u64::from(truth);
+    u16: |number| u64::from(number);
+    u32: |number| u64::from(number);
+    usize: |number| number as u64;
+    VirtAddr: |addr| addr.as_u64();
+    PhysAddr: |addr| addr.as_u64();
+    PageTableIndex: |index| u64::from(index);
+    PageOffset: |offset| u64::from(offset);
+    PageTableLevel: |level| level as u64;
 }

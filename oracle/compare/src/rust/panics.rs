@@ -5,8 +5,8 @@ use std::cell::Cell;
 use std::panic::{self, AssertUnwindSafe};
 
 use crate::answer::{
-    INDEX_TOO_LARGE, NOT_CANONICAL, NOT_PHYSICAL, NOT_POWER_OF_TWO, OVERFLOW, RESULT_NOT_CANONICAL,
-    RESULT_NOT_PHYSICAL,
+    INDEX_TOO_LARGE, NOT_CANONICAL, NOT_PHYSICAL, NOT_POWER_OF_TWO, OVERFLOW, PFN_TOO_LARGE,
+    RESULT_NOT_CANONICAL, RESULT_NOT_PHYSICAL,
 };
 
 /// The panics of the unchanged files, by their text.
@@ -18,6 +18,7 @@ pub enum Panic {
     Overflow,
     NotPowerOfTwo,
     IndexTooLarge,
+    PfnTooLarge,
 }
 
 impl Panic {
@@ -37,6 +38,7 @@ impl Panic {
             ("`align` must be a power of two", Panic::NotPowerOfTwo),
             ("(index as usize) < ENTRY_COUNT", Panic::IndexTooLarge),
             ("offset < (1 << 12)", Panic::IndexTooLarge),
+            ("PFNs must not have any bits", Panic::PfnTooLarge),
         ];
         let mut texts = texts.into_iter();
         texts.find_map(|(part, panic)| text.contains(part).then_some(panic))
@@ -52,6 +54,7 @@ pub fn refusal(panic: Panic) -> u8 {
         Panic::Overflow => OVERFLOW,
         Panic::NotPowerOfTwo => NOT_POWER_OF_TWO,
         Panic::IndexTooLarge => INDEX_TOO_LARGE,
+        Panic::PfnTooLarge => PFN_TOO_LARGE,
     }
 }
 
