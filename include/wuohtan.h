@@ -32,6 +32,7 @@ enum {
     WUOHTAN_SIZES_DIFFER = 7,
     WUOHTAN_RESULT_NOT_PHYSICAL = 8,
     WUOHTAN_INDEX_TOO_LARGE = 9,    /* an index of 512 or more, an offset of 4096 or more */
+    WUOHTAN_DRAW_MEETS_GAP = 10,    /* a draw of pages that would lead into the gap or over it */
     WUOHTAN_PFN_TOO_LARGE = 12,     /* a frame number whose frame would start at 2^52 or more */
     WUOHTAN_NO_SUCH_CHOICE = 253,   /* a level that is not 1 to 4, a size that is no page size */
     WUOHTAN_NO_ROOM = 254,
@@ -140,6 +141,77 @@ uint8_t wuohtan_page_forward_checked(uint64_t start, uint64_t size, uint64_t cou
 uint8_t wuohtan_page_backward_checked(uint64_t start, uint64_t size, uint64_t count, uint64_t *out, size_t len);
 uint8_t wuohtan_page_steps_between_u64(uint64_t start, uint64_t size, uint64_t end, uint64_t end_size,
                                        uint64_t *out, size_t len);
+
+/* Ranges: a start and an end, each with its size in bytes, handed in by value. A range is answered by
+ * two words, start and end. A draw is answered by four: 1 if there is an item and 0 if there is none,
+ * the item's start (0 if there is none), and start and end of the range left. A refused draw answers
+ * nothing: the range left is the one handed in. An inclusive range holds its end. */
+uint8_t wuohtan_page_range_new(uint64_t start, uint64_t start_size, uint64_t end, uint64_t end_size, uint64_t *out,
+                               size_t len);
+uint8_t wuohtan_page_range_is_empty(uint64_t start, uint64_t start_size, uint64_t end, uint64_t end_size,
+                                    uint64_t *out, size_t len);
+uint8_t wuohtan_page_range_len(uint64_t start, uint64_t start_size, uint64_t end, uint64_t end_size, uint64_t *out,
+                               size_t len);
+uint8_t wuohtan_page_range_size(uint64_t start, uint64_t start_size, uint64_t end, uint64_t end_size, uint64_t *out,
+                                size_t len);
+uint8_t wuohtan_page_range_next(uint64_t start, uint64_t start_size, uint64_t end, uint64_t end_size, uint64_t *out,
+                                size_t len);
+uint8_t wuohtan_page_range_nth(uint64_t start, uint64_t start_size, uint64_t end, uint64_t end_size, uint64_t n,
+                               uint64_t *out, size_t len);
+uint8_t wuohtan_page_range_next_back(uint64_t start, uint64_t start_size, uint64_t end, uint64_t end_size,
+                                     uint64_t *out, size_t len);
+uint8_t wuohtan_page_range_nth_back(uint64_t start, uint64_t start_size, uint64_t end, uint64_t end_size,
+                                    uint64_t n, uint64_t *out, size_t len);
+uint8_t wuohtan_page_range_as_4kib_page_range(uint64_t start, uint64_t start_size, uint64_t end, uint64_t end_size,
+                                              uint64_t *out, size_t len);
+uint8_t wuohtan_page_range_inclusive_new(uint64_t start, uint64_t start_size, uint64_t end, uint64_t end_size,
+                                         uint64_t *out, size_t len);
+uint8_t wuohtan_page_range_inclusive_is_empty(uint64_t start, uint64_t start_size, uint64_t end, uint64_t end_size,
+                                              uint64_t *out, size_t len);
+uint8_t wuohtan_page_range_inclusive_len(uint64_t start, uint64_t start_size, uint64_t end, uint64_t end_size,
+                                         uint64_t *out, size_t len);
+uint8_t wuohtan_page_range_inclusive_size(uint64_t start, uint64_t start_size, uint64_t end, uint64_t end_size,
+                                          uint64_t *out, size_t len);
+uint8_t wuohtan_page_range_inclusive_next(uint64_t start, uint64_t start_size, uint64_t end, uint64_t end_size,
+                                          uint64_t *out, size_t len);
+uint8_t wuohtan_page_range_inclusive_nth(uint64_t start, uint64_t start_size, uint64_t end, uint64_t end_size,
+                                         uint64_t n, uint64_t *out, size_t len);
+uint8_t wuohtan_page_range_inclusive_next_back(uint64_t start, uint64_t start_size, uint64_t end, uint64_t end_size,
+                                               uint64_t *out, size_t len);
+uint8_t wuohtan_page_range_inclusive_nth_back(uint64_t start, uint64_t start_size, uint64_t end, uint64_t end_size,
+                                              uint64_t n, uint64_t *out, size_t len);
+uint8_t wuohtan_phys_frame_range_new(uint64_t start, uint64_t start_size, uint64_t end, uint64_t end_size,
+                                     uint64_t *out, size_t len);
+uint8_t wuohtan_phys_frame_range_is_empty(uint64_t start, uint64_t start_size, uint64_t end, uint64_t end_size,
+                                          uint64_t *out, size_t len);
+uint8_t wuohtan_phys_frame_range_len(uint64_t start, uint64_t start_size, uint64_t end, uint64_t end_size,
+                                     uint64_t *out, size_t len);
+uint8_t wuohtan_phys_frame_range_size(uint64_t start, uint64_t start_size, uint64_t end, uint64_t end_size,
+                                      uint64_t *out, size_t len);
+uint8_t wuohtan_phys_frame_range_next(uint64_t start, uint64_t start_size, uint64_t end, uint64_t end_size,
+                                      uint64_t *out, size_t len);
+uint8_t wuohtan_phys_frame_range_nth(uint64_t start, uint64_t start_size, uint64_t end, uint64_t end_size,
+                                     uint64_t n, uint64_t *out, size_t len);
+uint8_t wuohtan_phys_frame_range_next_back(uint64_t start, uint64_t start_size, uint64_t end, uint64_t end_size,
+                                           uint64_t *out, size_t len);
+uint8_t wuohtan_phys_frame_range_nth_back(uint64_t start, uint64_t start_size, uint64_t end, uint64_t end_size,
+                                          uint64_t n, uint64_t *out, size_t len);
+uint8_t wuohtan_phys_frame_range_inclusive_new(uint64_t start, uint64_t start_size, uint64_t end, uint64_t end_size,
+                                               uint64_t *out, size_t len);
+uint8_t wuohtan_phys_frame_range_inclusive_is_empty(uint64_t start, uint64_t start_size, uint64_t end,
+                                                    uint64_t end_size, uint64_t *out, size_t len);
+uint8_t wuohtan_phys_frame_range_inclusive_len(uint64_t start, uint64_t start_size, uint64_t end, uint64_t end_size,
+                                               uint64_t *out, size_t len);
+uint8_t wuohtan_phys_frame_range_inclusive_size(uint64_t start, uint64_t start_size, uint64_t end,
+                                                uint64_t end_size, uint64_t *out, size_t len);
+uint8_t wuohtan_phys_frame_range_inclusive_next(uint64_t start, uint64_t start_size, uint64_t end,
+                                                uint64_t end_size, uint64_t *out, size_t len);
+uint8_t wuohtan_phys_frame_range_inclusive_nth(uint64_t start, uint64_t start_size, uint64_t end, uint64_t end_size,
+                                               uint64_t n, uint64_t *out, size_t len);
+uint8_t wuohtan_phys_frame_range_inclusive_next_back(uint64_t start, uint64_t start_size, uint64_t end,
+                                                     uint64_t end_size, uint64_t *out, size_t len);
+uint8_t wuohtan_phys_frame_range_inclusive_nth_back(uint64_t start, uint64_t start_size, uint64_t end,
+                                                    uint64_t end_size, uint64_t n, uint64_t *out, size_t len);
 
 #ifdef __cplusplus
 }

@@ -3,3 +3,4 @@ pub mod Widths
 pub mod Align
 pub mod Address
 pub mod Item
+pub mod Range

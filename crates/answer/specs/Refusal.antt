@@ -40,3 +40,11 @@ indexTooLarge = 9
 -- "`try_from_pfn`: 12 exactly if number × size ≥ 2^52"
 abbrev pub pfnTooLarge : ℕ
 pfnTooLarge = 12
+
+-- "Page draws: 10."
+abbrev pub drawMeetsGap : ℕ
+drawMeetsGap = 10
+
+-- "Frame draws: 11 if a start or end would leave 0 to 2^52 − 1."
+abbrev pub drawLeavesMemory : ℕ
+drawLeavesMemory = 11

@@ -4,6 +4,7 @@ mod refusal;
 
 pub use answer::BoolAnswer;
 pub use answer::U64Answer;
+pub use refusal::DRAW_MEETS_GAP;
 pub use refusal::INDEX_TOO_LARGE;
 pub use refusal::NOT_ALIGNED;
 pub use refusal::NOT_CANONICAL;

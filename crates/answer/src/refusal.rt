@@ -20,3 +20,5 @@ pub const RESULT_NOT_PHYSICAL: u8 = 8;
 pub const INDEX_TOO_LARGE: u8 = 9;
 // A frame number whose frame would start at 2^52 or more.
 pub const PFN_TOO_LARGE: u8 = 12;
+// A draw of pages that would lead into the gap or over it.
+pub const DRAW_MEETS_GAP: u8 = 10;

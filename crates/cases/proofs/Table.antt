@@ -7,14 +7,18 @@ use borrow.Author.Tests.{eq-eqb}
 use Rattle.laws.specs.Align.{powerOfTwo, up}
 use Rattle.laws.specs.Width.{signExtend}
 use Rattle.laws.specs.Steps.{forward, steps}
+use Rattle.laws.specs.Run.{run, lenBelow, lenThrough, pagesBelow, pagesThrough}
+use Rattle.laws.specs.Draw.{gapFrontBelow, gapFrontThrough, gapBackBelow, gapBackThrough}
 use Rattle.laws.proofs.Align.{one-bit}
+use Rattle.addr.specs.Item.{itemRefusal, itemsRefusal}
+use Rattle.page.specs.Range.{pageAnswer, nthOf, nthBackOf, nthInclusiveOf, nthBackInclusiveOf}
 use Rattle.cases.specs.Table.{Table}
 
 power : (k : ℕ) → powerOfTwo (2 ^ k) ≡ true
 power k = eq-eqb (ones (2 ^ k)) 1 (one-bit (2 ^ k) .1 (k, refl))
 
 pub table : Table
-unfolding signExtend forward steps up
+unfolding signExtend forward steps up run lenBelow lenThrough pagesBelow pagesThrough gapFrontBelow gapFrontThrough gapBackBelow gapBackThrough itemRefusal itemsRefusal pageAnswer nthOf nthBackOf nthInclusiveOf nthBackInclusiveOf
 table =
     record {
       a = refl;
@@ -36,4 +40,13 @@ table =
       g-1-gib = refl;
       edge-last = refl;
       edge-past = refl;
+      h = refl;
+      i = refl;
+      j-len = refl;
+      j-front = refl;
+      k-len = refl;
+      k-nth-0 = refl;
+      k-nth-1 = refl;
+      k-back-0 = refl;
+      k-back-1 = refl;
     }

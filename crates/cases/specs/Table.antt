@@ -1,12 +1,29 @@
 -- The table of document 01, "Checked by proof", as one statement about the definitions. What the functions answer follows from their contracts, which give
 -- each answer by the same definitions.
-use Prim.Native.Nat.{_-_, _^_}
+use Prim.Native.Nat.{ℕ, _-_, _^_}
 use mathlib.Core.Path.{_≡_}
 use Rattle.answer.specs.Outcome.{gives, none, refuses}
 use Rattle.laws.specs.Width.{signExtend}
 use Rattle.addr.specs.Address.{virt, plus, alignUpVirt, forwardFrom, stepsBetween, tableIndex, pageOffset}
+use Rattle.table.specs.declared.size.PageSize.the-variants.{Size4KiB}
 use Rattle.addr.specs.Item.{item}
+use Rattle.addr.specs.Range.{countBelow, countThrough}
 use Rattle.frame.specs.Frame.{pfnOf, fromPfn}
+use Rattle.page.specs.Range.{pageAtSize, nthOf, nthBackOf, nthInclusiveOf, nthBackInclusiveOf}
+use Rattle.page.specs.declared.page.Page as code
+use Rattle.page.specs.declared.page.PageAnswer.the-variants.{Page, Refused}
+use Rattle.page.specs.declared.range.PageRange.{PageRange}
+use Rattle.page.specs.declared.range_inclusive.PageRangeInclusive.{PageRangeInclusive}
+
+-- a 4 KiB page, and ranges of them
+abbrev pub page : ℕ → code.Page
+page a = pageAtSize Size4KiB a
+
+abbrev pub exclusive : ℕ → ℕ → PageRange
+exclusive a b = record { start = page a; end = page b }
+
+abbrev pub inclusive : ℕ → ℕ → PageRangeInclusive
+inclusive a b = record { start = page a; end = page b }
 
 pub record Table : Type 0 where
   -- A truncate 8000_0000_0000: ffff_8000_0000_0000
@@ -36,3 +53,23 @@ pub record Table : Type 0 where
   -- "Edges: 2^40 − 1 is a 4 KiB frame number, 2^40 isn't."
   pub edge-last : fromPfn (2 ^ 40 - 1) 0x1000 ≡ gives (item (2 ^ 52 - 0x1000) 0x1000)
   pub edge-past : fromPfn (2 ^ 40) 0x1000 ≡ refuses 12
+  -- H inclusive, both ffff_ffff_ffff_f000: front gives it, end is ffff_ffff_ffff_e000
+  pub h : nthInclusiveOf 48 (inclusive 0xffff_ffff_ffff_f000 0xffff_ffff_ffff_f000) 0
+      ≡ record { answer = Page (page 0xffff_ffff_ffff_f000); range = inclusive 0xffff_ffff_ffff_f000 0xffff_ffff_ffff_e000 }
+  -- I inclusive, both 0: back gives 0, start is 1000
+  pub i : nthBackInclusiveOf 48 (inclusive 0 0) 0 ≡ record { answer = Page (page 0); range = inclusive 0x1000 0 }
+  -- J inclusive, both 7fff_ffff_f000: `len` 1, front refusal 10
+  pub j-len : countThrough (virt 48) 0x7fff_ffff_f000 0x1000 0x7fff_ffff_f000 0x1000 ≡ gives 1
+  pub j-front : nthInclusiveOf 48 (inclusive 0x7fff_ffff_f000 0x7fff_ffff_f000) 0
+      ≡ record { answer = Refused 10; range = inclusive 0x7fff_ffff_f000 0x7fff_ffff_f000 }
+  -- K exclusive 7fff_ffff_e000 to ffff_8000_0000_1000: `len` f_fff0_0000_0003; nth(0) 7fff_ffff_e000, nth(1) refusal 10; nth_back(0) ffff_8000_0000_0000,
+  -- nth_back(1) refusal 10
+  pub k-len : countBelow (virt 48) 0x7fff_ffff_e000 0x1000 0xffff_8000_0000_1000 0x1000 ≡ gives 0xf_fff0_0000_0003
+  pub k-nth-0 : nthOf 48 (exclusive 0x7fff_ffff_e000 0xffff_8000_0000_1000) 0
+      ≡ record { answer = Page (page 0x7fff_ffff_e000); range = exclusive 0x7fff_ffff_f000 0xffff_8000_0000_1000 }
+  pub k-nth-1 : nthOf 48 (exclusive 0x7fff_ffff_e000 0xffff_8000_0000_1000) 1
+      ≡ record { answer = Refused 10; range = exclusive 0x7fff_ffff_e000 0xffff_8000_0000_1000 }
+  pub k-back-0 : nthBackOf 48 (exclusive 0x7fff_ffff_e000 0xffff_8000_0000_1000) 0
+      ≡ record { answer = Page (page 0xffff_8000_0000_0000); range = exclusive 0x7fff_ffff_e000 0xffff_8000_0000_0000 }
+  pub k-back-1 : nthBackOf 48 (exclusive 0x7fff_ffff_e000 0xffff_8000_0000_1000) 1
+      ≡ record { answer = Refused 10; range = exclusive 0x7fff_ffff_e000 0xffff_8000_0000_1000 }

@@ -12,8 +12,9 @@ use Rattle.table.specs.Level.{levelOf, bytesOf}
 use Rattle.table.specs.declared.level.LevelAnswer.{LevelAnswer}
 use Rattle.table.specs.declared.level.PageTableLevel.{PageTableLevel}
 use Rattle.table.specs.declared.size.PageSize.{PageSize}
+use Rattle.table.specs.declared.size.PageSize.the-variants.{Size4KiB, Size2MiB, Size1GiB}
 use Rattle.convention.specs.declared.choose.SizeAnswer.{SizeAnswer}
-use Rattle.convention.specs.Choice.{isLevel, isSize, sizeAnswerOf}
+use Rattle.convention.specs.Choice.{isLevel, isSize, sizeAnswerOf, sizeWith}
 use Rattle.table.specs.declared.level.LevelAnswer.the-variants as level
 use Rattle.convention.specs.declared.choose.SizeAnswer.the-variants as size
 
@@ -35,10 +36,17 @@ pub not-size : (z : ℕ) → (z ≡ 0x1000 → ⊥) → (z ≡ 0x20_0000 → ⊥
 unfolding isSize
 not-size z a b c = simp (ne-eqb z 0x1000 a, ne-eqb z 0x20_0000 b, ne-eqb z 0x4000_0000 c)
 
+-- a size is the one with its bytes
+size-with : (s : PageSize) (z : ℕ) → bytesOf s ≡ z → s ≡ sizeWith z
+unfolding sizeWith
+size-with Size4KiB z e = rw (← e)
+size-with Size2MiB z e = rw (← e)
+size-with Size1GiB z e = rw (← e)
+
 -- the size that was chosen has the bytes asked for, the level the number; where none was, the number is no choice
 module _ (z : ℕ) (r : SizeAnswer) (e : sizeAnswerOf r ≡ onlyIf (isSize z) z) where
-  pub size-chosen : (s : PageSize) → r ≡ size.Size s → (isSize z ≡ true) × (bytesOf s ≡ z)
-  size-chosen s h = some-holds (isSize z) (bytesOf s) z (rw h at e)
+  pub size-chosen : (s : PageSize) → r ≡ size.Size s → (isSize z ≡ true) × (bytesOf s ≡ z) × (s ≡ sizeWith z)
+  size-chosen s h = let p = some-holds (isSize z) (bytesOf s) z (rw h at e) in (p .0, p .1, size-with s z (p .1))
 
   pub size-missing : r ≡ size.None → isSize z ≡ false
   size-missing h = none-fails (isSize z) z (rw h at e)

@@ -15,3 +15,15 @@ stored (x ∷ out) v h = refl
 pub truth-word : (b : Bool) → cond b 1 0 ≡ boolByte b
 truth-word true = refl
 truth-word false = refl
+
+pub stored-two : (out : List ℕ) (a b : ℕ) → 2 ≤ length out → set (set out 0 a) 1 b ≡ a ∷ b ∷ drop 2 out
+stored-two [] a b h = absurd (omega arith)
+stored-two (x ∷ []) a b h = absurd (omega arith)
+stored-two (x ∷ y ∷ out) a b h = refl
+
+pub stored-four : (out : List ℕ) (a b c d : ℕ) → 4 ≤ length out → set (set (set (set out 0 a) 1 b) 2 c) 3 d ≡ a ∷ b ∷ c ∷ d ∷ drop 4 out
+stored-four [] a b c d h = absurd (omega arith)
+stored-four (x ∷ []) a b c d h = absurd (omega arith)
+stored-four (x ∷ y ∷ []) a b c d h = absurd (omega arith)
+stored-four (x ∷ y ∷ z ∷ []) a b c d h = absurd (omega arith)
+stored-four (x ∷ y ∷ z ∷ u ∷ out) a b c d h = refl

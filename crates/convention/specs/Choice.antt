@@ -5,6 +5,8 @@ use mathlib.Core.List.{List}
 use lib.Dec.{ltb, eqb}
 use Rattle.answer.specs.Outcome.{Outcome, gives, none, unless}
 use Rattle.table.specs.Level.{bytesOf}
+use Rattle.table.specs.declared.size.PageSize.{PageSize}
+use Rattle.table.specs.declared.size.PageSize.the-variants.{Size4KiB, Size2MiB, Size1GiB}
 use Rattle.convention.specs.declared.choose.SizeAnswer.{SizeAnswer}
 use Rattle.convention.specs.declared.choose.SizeAnswer.the-variants.{Size, None}
 
@@ -26,3 +28,7 @@ atLevel n o = unless 253 (isLevel n) o
 
 abbrev pub ofSize : ℕ → Outcome (List ℕ) → Outcome (List ℕ)
 ofSize z o = unless 253 (isSize z) o
+
+-- the size with so many bytes, for a number that is a choice
+unfoldable pub sizeWith : ℕ → PageSize
+sizeWith z = cond (eqb z 0x1000) Size4KiB (cond (eqb z 0x20_0000) Size2MiB Size1GiB)

@@ -1,2 +1,3 @@
 pub mod Convention
 pub mod Choice
+pub mod Ranges

@@ -1,6 +1,7 @@
 // The convention of the C interface: numbers go in by value, the answer's words are stored in a lent
 // slice, and a status says whether there are any.
 mod choose;
+mod ranges;
 mod status;
 mod store;
 
@@ -8,6 +9,14 @@ pub use choose::SizeAnswer;
 pub use choose::choose_level;
 pub use choose::choose_size;
 pub use choose::saturated;
+pub use ranges::give_frame_draw;
+pub use ranges::give_frame_draw_inclusive;
+pub use ranges::give_frame_range;
+pub use ranges::give_frame_range_inclusive;
+pub use ranges::give_page_draw;
+pub use ranges::give_page_draw_inclusive;
+pub use ranges::give_page_range;
+pub use ranges::give_page_range_inclusive;
 pub use status::NO_SUCH_CHOICE;
 pub use store::give;
 pub use store::give_bool;

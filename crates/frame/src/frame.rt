@@ -18,7 +18,7 @@ ghost use Rattle.addr.specs.Item.{itemRefusal, itemsRefusal, fromStart, contain
 ghost use Rattle.frame.specs.Frame.{start, bytes, frameOf, fromPfn, pfnOf};
 
 // How many physical addresses there are: 2^52.
-const SIZE: u64 = 0x10_0000_0000_0000;
+pub(crate) const SIZE: u64 = 0x10_0000_0000_0000;
 
 pub struct PhysFrame {
     pub start_address: PhysAddr,

@@ -4,7 +4,7 @@ use mathlib.Core.Logic.{_↔_}
 use Prim.Native.Nat.{ℕ, zero, suc, _+_, _-_, _*_, _/_, _%_, _^_, _≤_, _<_}
 use native.Mathlib.Omega.{arith}
 use native.Mathlib.Decide.{decLt}
-use native.Mathlib.Nat.{pow-suc, div-add-mod', mul-mod-left, mul-le-mul-right, le-div-iff-mul-le, div-eq-of-lt-le, mod-lt, add-mul, div-lt-iff-lt-mul, mul-div-cancel}
+use native.Mathlib.Nat.{pow-suc, div-add-mod', mul-mod-left, mul-le-mul-right, le-div-iff-mul-le, div-eq-of-lt-le, mod-lt, add-mul, div-lt-iff-lt-mul, mul-div-cancel, lt-of-mul-lt-mul-right, suc-mul}
 use lib.Arith.{bin-ind}
 use lib.Bits.{bitAnd, and-mask}
 use lib.Count.{ones, ones-step, ones-cat}
@@ -109,3 +109,12 @@ pow-blocks k m h =
     let p : 2 ^ (m - k + k) ≡ 2 ^ (m - k) * 2 ^ k = pow-add 2 (m - k) k in
     let q : 2 ^ m ≡ 2 ^ (m - k) * 2 ^ k = rw e at p in
     rw q (ap (λ (x : ℕ). x * 2 ^ k) (mul-div-cancel (2 ^ (m - k)) (pow-pos k)))
+
+-- a multiple of a power of two that is below a larger one leaves room for one more
+pub under-top : (k m a : ℕ) → k ≤ m → a < 2 ^ m → a % 2 ^ k ≡ 0 → a + 2 ^ k ≤ 2 ^ m
+under-top k m a h l z =
+    let w = pow-blocks k m h in
+    let d = div-add-mod' a (2 ^ k) in
+    let q : a / 2 ^ k < 2 ^ m / 2 ^ k = lt-of-mul-lt-mul-right (2 ^ k) (omega arith) in
+    let g : suc (a / 2 ^ k) * 2 ^ k ≤ 2 ^ m / 2 ^ k * 2 ^ k = mul-le-mul-right (2 ^ k) q in
+    omega (arith, suc-mul (a / 2 ^ k) (2 ^ k))

@@ -5,3 +5,7 @@ pub mod Align
 pub mod Index
 pub mod Number
 pub mod Entries
+pub mod Run
+pub mod Draw
+pub mod Gap
+pub mod Left

@@ -3,3 +3,5 @@ pub mod Steps
 pub mod Align
 pub mod Index
 pub mod Number
+pub mod Run
+pub mod Draw

@@ -33,6 +33,10 @@ CopiesBit w a = (k : ℕ) → w ≤ k → k < 64 → bit k a ≡ bit (w - 1) a
 abbrev pub canonical : ℕ → ℕ → Bool
 canonical w a = eqb (signExtend w a) a
 
+-- the first address above the gap, 0xffff_8000_0000_0000 at 48 bits
+abbrev pub firstHigh : ℕ → ℕ
+firstHigh w = 2 ^ 64 - half w
+
 -- "The gap lies between 0x7fff_ffff_ffff and 0xffff_8000_0000_0000": above the low half, below the high one
 abbrev pub InGap : ℕ → ℕ → Type 0
 InGap w a = (half w ≤ a) × (a < 2 ^ 64 - half w)

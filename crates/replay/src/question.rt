@@ -2,7 +2,9 @@
 // oracle/compare/src/operations/.
 use crate::line::Line;
 use cabi::align;
+use cabi::frame_ranges;
 use cabi::frames;
+use cabi::page_ranges;
 use cabi::pages;
 use cabi::phys_addr;
 use cabi::tables;
@@ -14,7 +16,7 @@ const UNKNOWN: u8 = 252;
 
 // How many arguments the operation has.
 fn arguments(operation: u64) -> usize
-    ensures { λ r. ⌜ r ≤ 4 ⌝ }
+    ensures { λ r. ⌜ r ≤ 5 ⌝ }
 {
     match operation {
         0x13 | 0x23 => 0,
@@ -33,7 +35,20 @@ fn arguments(operation: u64) -> usize
         | 0x40..=0x44 => 1,
         0x57 | 0x58 | 0x68 | 0x6a | 0x6c | 0x6d | 0x6f | 0x70 => 3,
         0x59 | 0x69 | 0x6e | 0x71 => 4,
+        0x85 | 0x87 | 0x95 | 0x97 | 0xa5 | 0xa7 | 0xb5 | 0xb7 => 5,
+        0x80..=0xbf => 4,
         _ => 2,
+    }
+}
+
+// How many words the operation's answer has.
+fn words(operation: u64) -> usize
+    ensures { λ r. ⌜ r ≤ 4 ⌝ }
+{
+    match operation {
+        0x80 | 0x88 | 0x90 | 0xa0 | 0xb0 => 2,
+        0x84..=0x87 | 0x94..=0x97 | 0xa4..=0xa7 | 0xb4..=0xb7 => 4,
+        _ => 1,
     }
 }
 
@@ -147,7 +162,80 @@ fn ask_page(operation: u64, a: u64, b: u64, c: u64, d: u64, out: &mut [u64]) -> 
     }
 }
 
-fn ask(operation: u64, a: u64, b: u64, c: u64, d: u64, out: &mut [u64]) -> u8 {
+fn ask_page_range(operation: u64, a: u64, b: u64, c: u64, d: u64, n: u64, out: &mut [u64]) -> u8 {
+    match operation {
+        0x80 => page_ranges::wuohtan_page_range_new(a, b, c, d, out),
+        0x81 => page_ranges::wuohtan_page_range_is_empty(a, b, c, d, out),
+        0x82 => page_ranges::wuohtan_page_range_len(a, b, c, d, out),
+        0x83 => page_ranges::wuohtan_page_range_size(a, b, c, d, out),
+        0x84 => page_ranges::wuohtan_page_range_next(a, b, c, d, out),
+        0x85 => page_ranges::wuohtan_page_range_nth(a, b, c, d, n, out),
+        0x86 => page_ranges::wuohtan_page_range_next_back(a, b, c, d, out),
+        0x87 => page_ranges::wuohtan_page_range_nth_back(a, b, c, d, n, out),
+        0x88 => page_ranges::wuohtan_page_range_as_4kib_page_range(a, b, c, d, out),
+        _ => UNKNOWN,
+    }
+}
+
+fn ask_page_range_inclusive(
+    operation: u64,
+    a: u64,
+    b: u64,
+    c: u64,
+    d: u64,
+    n: u64,
+    out: &mut [u64],
+) -> u8 {
+    match operation {
+        0x90 => page_ranges::wuohtan_page_range_inclusive_new(a, b, c, d, out),
+        0x91 => page_ranges::wuohtan_page_range_inclusive_is_empty(a, b, c, d, out),
+        0x92 => page_ranges::wuohtan_page_range_inclusive_len(a, b, c, d, out),
+        0x93 => page_ranges::wuohtan_page_range_inclusive_size(a, b, c, d, out),
+        0x94 => page_ranges::wuohtan_page_range_inclusive_next(a, b, c, d, out),
+        0x95 => page_ranges::wuohtan_page_range_inclusive_nth(a, b, c, d, n, out),
+        0x96 => page_ranges::wuohtan_page_range_inclusive_next_back(a, b, c, d, out),
+        0x97 => page_ranges::wuohtan_page_range_inclusive_nth_back(a, b, c, d, n, out),
+        _ => UNKNOWN,
+    }
+}
+
+fn ask_frame_range(operation: u64, a: u64, b: u64, c: u64, d: u64, n: u64, out: &mut [u64]) -> u8 {
+    match operation {
+        0xa0 => frame_ranges::wuohtan_phys_frame_range_new(a, b, c, d, out),
+        0xa1 => frame_ranges::wuohtan_phys_frame_range_is_empty(a, b, c, d, out),
+        0xa2 => frame_ranges::wuohtan_phys_frame_range_len(a, b, c, d, out),
+        0xa3 => frame_ranges::wuohtan_phys_frame_range_size(a, b, c, d, out),
+        0xa4 => frame_ranges::wuohtan_phys_frame_range_next(a, b, c, d, out),
+        0xa5 => frame_ranges::wuohtan_phys_frame_range_nth(a, b, c, d, n, out),
+        0xa6 => frame_ranges::wuohtan_phys_frame_range_next_back(a, b, c, d, out),
+        0xa7 => frame_ranges::wuohtan_phys_frame_range_nth_back(a, b, c, d, n, out),
+        _ => UNKNOWN,
+    }
+}
+
+fn ask_frame_range_inclusive(
+    operation: u64,
+    a: u64,
+    b: u64,
+    c: u64,
+    d: u64,
+    n: u64,
+    out: &mut [u64],
+) -> u8 {
+    match operation {
+        0xb0 => frame_ranges::wuohtan_phys_frame_range_inclusive_new(a, b, c, d, out),
+        0xb1 => frame_ranges::wuohtan_phys_frame_range_inclusive_is_empty(a, b, c, d, out),
+        0xb2 => frame_ranges::wuohtan_phys_frame_range_inclusive_len(a, b, c, d, out),
+        0xb3 => frame_ranges::wuohtan_phys_frame_range_inclusive_size(a, b, c, d, out),
+        0xb4 => frame_ranges::wuohtan_phys_frame_range_inclusive_next(a, b, c, d, out),
+        0xb5 => frame_ranges::wuohtan_phys_frame_range_inclusive_nth(a, b, c, d, n, out),
+        0xb6 => frame_ranges::wuohtan_phys_frame_range_inclusive_next_back(a, b, c, d, out),
+        0xb7 => frame_ranges::wuohtan_phys_frame_range_inclusive_nth_back(a, b, c, d, n, out),
+        _ => UNKNOWN,
+    }
+}
+
+fn ask(operation: u64, a: u64, b: u64, c: u64, d: u64, n: u64, out: &mut [u64]) -> u8 {
     match operation {
         0x01 => align::wuohtan_align_down(a, b, out),
         0x02 => align::wuohtan_align_up(a, b, out),
@@ -157,8 +245,26 @@ fn ask(operation: u64, a: u64, b: u64, c: u64, d: u64, out: &mut [u64]) -> u8 {
         0x40..=0x4f => ask_virt_addr_index(operation, a, b, out),
         0x50..=0x5f => ask_frame(operation, a, b, c, d, out),
         0x60..=0x7f => ask_page(operation, a, b, c, d, out),
+        0x80..=0x8f => ask_page_range(operation, a, b, c, d, n, out),
+        0x90..=0x9f => ask_page_range_inclusive(operation, a, b, c, d, n, out),
+        0xa0..=0xaf => ask_frame_range(operation, a, b, c, d, n, out),
+        0xb0..=0xbf => ask_frame_range_inclusive(operation, a, b, c, d, n, out),
         _ => UNKNOWN,
     }
+}
+
+// Whether the first k words of out are those of the line from a place on.
+fn same_words(out: [u64; 8], fields: [u64; 16], place: usize, k: usize) -> bool
+    requires { ⌜ (k ≤ 4) × (place ≤ 8) ⌝ }
+{
+    let mut i = 0;
+    while i < k {
+        if out[i] != fields[place + i] {
+            return false;
+        }
+        i += 1;
+    }
+    true
 }
 
 // Whether the answer that the line records is the one that the call gives.
@@ -166,6 +272,7 @@ pub fn agrees(line: Line) -> bool {
     let fields = line.fields;
     let count = line.count;
     let n = arguments(fields[0]);
+    let k = words(fields[0]);
     if !line.good || count < n + 2 {
         return false;
     }
@@ -176,6 +283,7 @@ pub fn agrees(line: Line) -> bool {
         fields[2],
         fields[3],
         fields[4],
+        fields[5],
         &mut out,
     );
     if status as u64 != fields[n + 1] {
@@ -184,5 +292,8 @@ pub fn agrees(line: Line) -> bool {
     if status != 0 {
         return count == n + 2;
     }
-    count == n + 3 && out[0] == fields[n + 2]
+    if count != n + 2 + k {
+        return false;
+    }
+    same_words(out, fields, n + 2, k)
 }

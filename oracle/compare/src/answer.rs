@@ -17,6 +17,7 @@ pub const RESULT_NOT_CANONICAL: u8 = 6;
 pub const SIZES_DIFFER: u8 = 7;
 pub const RESULT_NOT_PHYSICAL: u8 = 8;
 pub const INDEX_TOO_LARGE: u8 = 9;
+pub const DRAW_MEETS_GAP: u8 = 10;
 pub const PFN_TOO_LARGE: u8 = 12;
 
 /// The most words that an answer has.

@@ -2,7 +2,7 @@
 //! the document, before it is held against the Rust and the port.
 
 use crate::answer::Answer;
-use crate::answer::{ANSWERED, NONE, PFN_TOO_LARGE, RESULT_NOT_CANONICAL};
+use crate::answer::{ANSWERED, DRAW_MEETS_GAP, NONE, PFN_TOO_LARGE, RESULT_NOT_CANONICAL};
 use crate::operation::Operation;
 
 /// The case, the operation, its arguments and the answer.
@@ -79,7 +79,68 @@ pub const CASES: &[Case] = &[
         &[LAST_FRAME],
     ),
     ends("edges", TRY_FROM_PFN, &[1 << 40, SIZE_4KIB], PFN_TOO_LARGE),
+    gives("H", "page_range_inclusive_next", &IN_CASE_H, LEFT_IN_CASE_H),
+    gives(
+        "H",
+        "page_range_inclusive_nth",
+        &with(IN_CASE_H, 0),
+        LEFT_IN_CASE_H,
+    ),
+    gives(
+        "I",
+        "page_range_inclusive_next_back",
+        &IN_CASE_I,
+        LEFT_IN_CASE_I,
+    ),
+    gives(
+        "I",
+        "page_range_inclusive_nth_back",
+        &with(IN_CASE_I, 0),
+        LEFT_IN_CASE_I,
+    ),
+    gives("J", "page_range_inclusive_len", &IN_CASE_J, &[1]),
+    ends("J", "page_range_inclusive_next", &IN_CASE_J, DRAW_MEETS_GAP),
+    ends(
+        "J",
+        "page_range_inclusive_nth",
+        &with(IN_CASE_J, 0),
+        DRAW_MEETS_GAP,
+    ),
+    gives("K", "page_range_len", &IN_CASE_K, &[0xf_fff0_0000_0003]),
+    gives("K", "page_range_next", &IN_CASE_K, FRONT_IN_CASE_K),
+    gives("K", "page_range_nth", &with(IN_CASE_K, 0), FRONT_IN_CASE_K),
+    ends("K", "page_range_nth", &with(IN_CASE_K, 1), DRAW_MEETS_GAP),
+    gives("K", "page_range_next_back", &IN_CASE_K, BACK_IN_CASE_K),
+    gives(
+        "K",
+        "page_range_nth_back",
+        &with(IN_CASE_K, 0),
+        BACK_IN_CASE_K,
+    ),
+    ends(
+        "K",
+        "page_range_nth_back",
+        &with(IN_CASE_K, 1),
+        DRAW_MEETS_GAP,
+    ),
 ];
+
+const LAST_PAGE: u64 = 0xffff_ffff_ffff_f000;
+const IN_CASE_H: [u64; 4] = [LAST_PAGE, SIZE_4KIB, LAST_PAGE, SIZE_4KIB];
+const LEFT_IN_CASE_H: &[u64] = &[1, LAST_PAGE, LAST_PAGE, 0xffff_ffff_ffff_e000];
+const IN_CASE_I: [u64; 4] = [0, SIZE_4KIB, 0, SIZE_4KIB];
+const LEFT_IN_CASE_I: &[u64] = &[1, 0, 0x1000, 0];
+const IN_CASE_J: [u64; 4] = [LAST_LOW_PAGE, SIZE_4KIB, LAST_LOW_PAGE, SIZE_4KIB];
+const START_IN_CASE_K: u64 = 0x7fff_ffff_e000;
+const END_IN_CASE_K: u64 = 0xffff_8000_0000_1000;
+const IN_CASE_K: [u64; 4] = [START_IN_CASE_K, SIZE_4KIB, END_IN_CASE_K, SIZE_4KIB];
+const FRONT_IN_CASE_K: &[u64] = &[1, START_IN_CASE_K, LAST_LOW_PAGE, END_IN_CASE_K];
+const BACK_IN_CASE_K: &[u64] = &[1, FIRST_HIGH, START_IN_CASE_K, FIRST_HIGH];
+
+/// A range and how many items a draw passes over.
+const fn with([start, start_size, end, end_size]: [u64; 4], n: u64) -> [u64; 5] {
+    [start, start_size, end, end_size, n]
+}
 
 const LAST_FRAME: u64 = 0xf_ffff_ffff_f000;
 

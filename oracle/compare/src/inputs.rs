@@ -3,8 +3,10 @@
 pub mod boundary;
 pub mod drawn;
 pub mod generator;
+pub mod ranges;
 pub mod sizes;
 
+use crate::kind::Kind;
 use crate::operation::Operation;
 use generator::Generator;
 
@@ -17,6 +19,13 @@ pub fn each_boundary<E>(
     operation: &Operation,
     mut ask: impl FnMut(&[u64]) -> Result<(), E>,
 ) -> Result<(), E> {
+    if let &[range, Kind::Draws] = operation.kinds {
+        // What a draw passes over depends on the range.
+        return boundary::of(range).into_iter().try_for_each(|words| {
+            let mut draws = ranges::draws(range, &words).into_iter();
+            draws.try_for_each(|n| ask(&[&words[..], &[n]].concat()))
+        });
+    }
     let values: Vec<_> = operation.kinds.iter().map(|&k| boundary::of(k)).collect();
     let all = values
         .iter()

@@ -33,6 +33,12 @@ pub enum Kind {
     Frame,
     /// A page: its start and its size.
     Page,
+    /// A range of frames: its first frame and its end, each a start and a size.
+    FrameRange,
+    /// A range of pages: its first page and its end, each a start and a size.
+    PageRange,
+    /// How many items of the range before it a draw passes over.
+    Draws,
 }
 
 impl Kind {
@@ -48,12 +54,23 @@ impl Kind {
             | Kind::Items
             | Kind::Index
             | Kind::Offset
-            | Kind::Level => 1,
+            | Kind::Level
+            | Kind::Draws => 1,
             Kind::VirtualAndSize
             | Kind::PhysicalAndSize
             | Kind::FrameNumber
             | Kind::Frame
             | Kind::Page => 2,
+            Kind::FrameRange | Kind::PageRange => 4,
+        }
+    }
+
+    /// What start and end of a range are.
+    pub const fn item(self) -> Option<Kind> {
+        match self {
+            Kind::FrameRange => Some(Kind::Frame),
+            Kind::PageRange => Some(Kind::Page),
+            _ => None,
         }
     }
 
@@ -63,14 +80,22 @@ impl Kind {
             (Kind::Level, &[level]) => Choices {
                 level: Some(level),
                 size: None,
+                end_size: None,
             },
             (_, &[_, size]) => Choices {
                 level: None,
                 size: Some(size),
+                end_size: None,
+            },
+            (_, &[_, size, _, end_size]) => Choices {
+                level: None,
+                size: Some(size),
+                end_size: Some(end_size),
             },
             _ => Choices {
                 level: None,
                 size: None,
+                end_size: None,
             },
         }
     }
@@ -80,6 +105,14 @@ impl Kind {
 pub struct Choices {
     pub level: Option<u64>,
     pub size: Option<u64>,
+    /// That of a range's end.
+    pub end_size: Option<u64>,
+}
+
+impl Choices {
+    pub fn sizes(&self) -> impl Iterator<Item = u64> {
+        self.size.into_iter().chain(self.end_size)
+    }
 }
 
 /// Each argument with its numbers.

@@ -6,10 +6,11 @@ pub mod numbers;
 pub mod page_table;
 pub mod pages;
 pub mod phys_addr;
+pub mod ranges;
 pub mod virt_addr;
 
 use crate::answer::{
-    Answer, INDEX_TOO_LARGE, NOT_ALIGNED, NOT_CANONICAL, NOT_PHYSICAL, NO_SUCH_CHOICE,
+    Answer, INDEX_TOO_LARGE, NOT_ALIGNED, NOT_CANONICAL, NOT_PHYSICAL, NO_SUCH_CHOICE, SIZES_DIFFER,
 };
 use crate::kind::{self, Kind};
 
@@ -33,10 +34,18 @@ fn outside_choice(kind: Kind, words: &[u64]) -> bool {
         .level
         .is_some_and(|level| ![1, 2, 3, 4].contains(&level));
     let no_size = |size: u64| ![power(12), power(21), power(30)].contains(&size.into());
-    no_level || choices.size.is_some_and(no_size)
+    no_level || choices.sizes().any(no_size)
 }
 
 fn refused(kind: Kind, words: &[u64]) -> Option<u8> {
+    // A range is tested by its start, by its end, and by whether their sizes are one.
+    if let (Some(item), &[_, size, _, end_size]) = (kind.item(), words) {
+        let refused_end = || refused(item, &words[2..]);
+        let differ = || (size != end_size).then_some(SIZES_DIFFER);
+        return refused(item, &words[..2])
+            .or_else(refused_end)
+            .or_else(differ);
+    }
     let number = u128::from(words[0]);
     let tests: &[(bool, u8)] = match kind {
         Kind::Virtual | Kind::VirtualAndSize => &[(virt_addr::canonical(number), NOT_CANONICAL)],
@@ -57,7 +66,10 @@ fn refused(kind: Kind, words: &[u64]) -> Option<u8> {
         | Kind::Count
         | Kind::Items
         | Kind::Level
-        | Kind::FrameNumber => &[],
+        | Kind::FrameNumber
+        | Kind::FrameRange
+        | Kind::PageRange
+        | Kind::Draws => &[],
     };
     let mut tests = tests.iter();
     tests.find_map(|&(holds, refusal)| (!holds).then_some(refusal))

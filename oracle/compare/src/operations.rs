@@ -4,6 +4,7 @@ mod addresses;
 mod frames;
 mod page_table;
 mod pages;
+mod ranges;
 
 use std::ops::{AddAssign, SubAssign};
 
@@ -18,6 +19,10 @@ pub fn all() -> impl Iterator<Item = &'static Operation> {
         page_table::VIRT_ADDR,
         frames::PHYS_FRAME,
         pages::PAGE,
+        ranges::PAGE_RANGE,
+        ranges::PAGE_RANGE_INCLUSIVE,
+        ranges::PHYS_FRAME_RANGE,
+        ranges::PHYS_FRAME_RANGE_INCLUSIVE,
     ];
     lists.into_iter().flatten()
 }

@@ -3,11 +3,13 @@
 pub mod answers;
 pub mod argument;
 pub mod panics;
+pub mod ranges;
 pub mod unasked;
 
 pub use answers::Answers;
 pub use argument::Argument;
-pub use panics::{refusal, refusal_of_new, silence_caught_panics, Panic};
+pub use panics::{refusal, refusal_of_draw, refusal_of_new, silence_caught_panics, Panic};
+pub use ranges::drawn;
 pub use unasked::Unasked;
 
 use crate::answer::Answer;

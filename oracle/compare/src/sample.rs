@@ -3,7 +3,9 @@
 use std::collections::BTreeMap;
 use std::collections::BTreeSet;
 
-use crate::answer::{Answer, NO_SUCH_CHOICE};
+use crate::answer::{
+    Answer, NOT_ALIGNED, NOT_CANONICAL, NOT_PHYSICAL, NO_SUCH_CHOICE, SIZES_DIFFER,
+};
 use crate::cases;
 use crate::inputs;
 use crate::inputs::generator::Generator;
@@ -40,8 +42,15 @@ pub fn of(operation: &Operation) -> BTreeMap<Vec<u64>, Answer> {
 /// The functions on addresses, whose numbers are below this one, have more questions.
 const BEHIND_ADDRESSES: u8 = 0x30;
 
+fn of_ranges(operation: &Operation) -> bool {
+    operation.kinds.iter().any(|kind| kind.item().is_some())
+}
+
 /// How many questions are wanted, by the number of arguments.
 fn size(operation: &Operation) -> usize {
+    if of_ranges(operation) {
+        return 40;
+    }
     match (operation.words(), operation.number < BEHIND_ADDRESSES) {
         (0, _) => 1,
         (1, true) => 80,
@@ -82,8 +91,13 @@ fn pools(operation: &Operation) -> Vec<Pool> {
     pools
 }
 
-/// The status, and of an answer whether its first word is 0, 1, low or high.
+/// The status, and of an answer whether its first word is 0, 1, low or high; of a draw with an item
+/// whether the range left starts or ends on it.
 fn kind_of(answer: &Answer) -> (u8, u8) {
+    if let &[1, item, start, end] = answer.as_words() {
+        let place = 2 * u8::from(start == item) + u8::from(end == item);
+        return (answer.status, 4 + place);
+    }
     let word = match answer.as_words().first() {
         None | Some(0) => 0,
         Some(1) => 1,
@@ -93,9 +107,14 @@ fn kind_of(answer: &Answer) -> (u8, u8) {
     (answer.status, word)
 }
 
-/// The first size or level of the question. Those that there are not are all of one kind.
+/// The first size or level of the question. Those that there are not are all of one kind, and so
+/// are the ranges that one refusal keeps from being made.
 fn choice(operation: &Operation, args: &[u64], answer: &Answer) -> Option<u64> {
     if answer.status == NO_SUCH_CHOICE {
+        return None;
+    }
+    let of_argument = [NOT_CANONICAL, NOT_PHYSICAL, NOT_ALIGNED, SIZES_DIFFER];
+    if of_ranges(operation) && of_argument.contains(&answer.status) {
         return None;
     }
     kind::split(operation.kinds, args).find_map(|(kind, words)| {

@@ -1,5 +1,6 @@
 //! The numbers at which an answer may change, with their neighbours.
 
+use super::ranges;
 use super::sizes::{NO_SIZES, SIZES};
 use crate::kind::Kind;
 
@@ -74,6 +75,8 @@ pub fn of(kind: Kind) -> Vec<Vec<u64>> {
         Kind::FrameNumber => with_sizes(|_| counts()),
         Kind::Frame => with_sizes(|size| starts(size, &FRAME_PLACES)),
         Kind::Page => with_sizes(|size| starts(size, &PAGE_PLACES)),
+        Kind::FrameRange | Kind::PageRange => ranges::boundary(kind),
+        Kind::Draws => each(counts()),
     };
     values.sort_unstable();
     values.dedup();

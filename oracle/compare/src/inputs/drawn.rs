@@ -3,11 +3,17 @@
 
 use super::boundary::{LEVELS, PLACES};
 use super::generator::Generator;
+use super::ranges;
 use super::sizes::{last_named, NO_SIZES, SIZES};
 use crate::kind::Kind;
 
 /// Adds an argument of this kind to those before it.
 pub fn push(kind: Kind, args: &mut Vec<u64>, generator: &mut Generator) {
+    if let Some(item) = kind.item() {
+        return ranges::push(kind, args, generator, |args, generator| {
+            push(item, args, generator)
+        });
+    }
     match kind {
         Kind::VirtualAndSize
         | Kind::PhysicalAndSize
@@ -49,6 +55,7 @@ fn of(kind: Kind, earlier: &[u64], generator: &mut Generator) -> u64 {
             _ => number(generator),
         },
         Kind::Items => items(earlier, generator),
+        Kind::Draws => ranges::draw(earlier, generator, number),
         Kind::Index => mostly_below(512, generator),
         Kind::Offset => mostly_below(4096, generator),
         Kind::Small => match generator.below(4) {

@@ -14,7 +14,7 @@ pub fn has_choices(kinds: &[Kind], args: &[u64]) -> bool {
     kind::split(kinds, args).all(|(kind, words)| {
         let choices = kind.choices(words);
         choices.level.is_none_or(|number| level(number).is_some())
-            && choices.size.is_none_or(|size| SIZES.contains(&size))
+            && choices.sizes().all(|size| SIZES.contains(&size))
     })
 }
 
@@ -36,6 +36,13 @@ impl Argument<1> for u64 {
     #[inline]
     fn made([number]: [u64; 1]) -> Result<u64, Unasked> {
         Ok(number)
+    }
+}
+
+impl Argument<1> for usize {
+    #[inline]
+    fn made([number]: [u64; 1]) -> Result<usize, Unasked> {
+        usize::try_from(number).map_err(|_| Unasked::NoWay)
     }
 }
 

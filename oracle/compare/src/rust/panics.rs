@@ -5,8 +5,8 @@ use std::cell::Cell;
 use std::panic::{self, AssertUnwindSafe};
 
 use crate::answer::{
-    INDEX_TOO_LARGE, NOT_CANONICAL, NOT_PHYSICAL, NOT_POWER_OF_TWO, OVERFLOW, PFN_TOO_LARGE,
-    RESULT_NOT_CANONICAL, RESULT_NOT_PHYSICAL,
+    DRAW_MEETS_GAP, INDEX_TOO_LARGE, NOT_CANONICAL, NOT_PHYSICAL, NOT_POWER_OF_TWO, OVERFLOW,
+    PFN_TOO_LARGE, RESULT_NOT_CANONICAL, RESULT_NOT_PHYSICAL,
 };
 
 /// The panics of the unchanged files, by their text.
@@ -62,6 +62,14 @@ pub fn refusal(panic: Panic) -> u8 {
 pub fn refusal_of_new(panic: Panic) -> u8 {
     match panic {
         Panic::Bits52To64 => NOT_PHYSICAL,
+        other => refusal(other),
+    }
+}
+
+/// In a draw of pages a start or an end has been led into the gap.
+pub fn refusal_of_draw(panic: Panic) -> u8 {
+    match panic {
+        Panic::NonCanonical => DRAW_MEETS_GAP,
         other => refusal(other),
     }
 }

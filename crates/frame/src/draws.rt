@@ -1,0 +1,27 @@
+// Frames from what is drawn on numbers.
+use crate::frame::FrameAnswer;
+use crate::frame::PhysFrame;
+use addr::PhysAddr;
+use draw::Item;
+use table::PageSize;
+ghost use mathlib.Core.Path.{_≡_};
+ghost use Rattle.draw.specs.Draws.{itemOf};
+ghost use Rattle.frame.specs.Range.{frameAt, frameAnswer};
+
+pub(crate) fn frame_at(size: PageSize, start: u64) -> PhysFrame
+    ensures { λ r. ⌜ r ≡ frameAt size start ⌝ }
+{
+    PhysFrame {
+        start_address: PhysAddr(start),
+        size,
+    }
+}
+
+pub(crate) fn frame_answer(size: PageSize, item: Item) -> FrameAnswer
+    ensures { λ r. ⌜ r ≡ frameAnswer size (itemOf item) ⌝ }
+{
+    match item {
+        Item::At(a) => FrameAnswer::Frame(frame_at(size, a)),
+        Item::None => FrameAnswer::None,
+    }
+}

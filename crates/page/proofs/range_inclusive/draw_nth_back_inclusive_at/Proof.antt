@@ -1,0 +1,82 @@
+-- `draw_nth_back_inclusive_at` meets its contract.
+use mathlib.Core.Path.{sym, ap, _∙_}
+use mathlib.Core.Bool.{false}
+use native.Mathlib.Omega.{arith}
+use borrow.Author.Needs.{needs}
+use Rattle.laws.specs.Draw as draw
+use Rattle.addr.specs.Widths.{widthOf}
+use Rattle.page.specs.Page.{bytes}
+use Rattle.page.proofs.Ranges.{accepted, settledInclusive, nth-back-inclusive-refused, nth-back-inclusive-gap, nth-back-inclusive-settled}
+use Rattle.page.proofs.range_inclusive.draw_nth_back_inclusive_at.Statement.{statement}
+use Rattle.page.proofs.range_inclusive.draw_nth_back_inclusive_at.Tie as tie
+
+pages-refusal-requires : tie.Need-pages-refusal-requires
+pages-refusal-requires c κs = search needs
+
+returns : tie.Need-returns
+returns c =
+    let e = c .before .pages-refusal .ensures in
+    rw e (nth-back-inclusive-refused (c .before .before .before .before .args .width) (c .before .before .before .before .args .range) (c .before .before .before .before .args .n) (λ z. c .if1 .taken (e ∙ z)))
+
+gap-back-through-requires : tie.Need-gap-back-through-requires
+gap-back-through-requires c κs = search needs
+
+returns-2 : tie.Need-returns-2
+returns-2 c =
+    nth-back-inclusive-gap (c .before .before .before .before .before .before .args .width) (c .before .before .before .before .before .before .args .range) (c .before .before .before .before .before .before .args .n) (sym (c .before .before .before .pages-refusal .ensures) ∙ c .before .before .if1 .left) (sym (c .before .gap-back-through .ensures) ∙ c .if2 .taken)
+
+bytes-requires : tie.Need-bytes-requires
+bytes-requires c κs = search needs
+
+sub-back-through : tie.Need-sub-back-through
+sub-back-through c =
+    let r = c .before .before .before .before .before .before .before .args .range in
+    let x = accepted (c .before .before .before .before .before .before .before .args .width) (r .start) (r .end) (sym (c .before .before .before .before .pages-refusal .ensures) ∙ c .before .before .before .if1 .left) in
+    omega (arith, c .bytes .ensures, x .ends .some)
+
+sub-back-through-2 : tie.Need-sub-back-through-2
+sub-back-through-2 c = search needs
+
+back-through-requires : tie.Need-back-through-requires
+back-through-requires c κs =
+    let r = c .before .before .before .before .before .before .before .args .range in
+    let x = accepted (c .before .before .before .before .before .before .before .args .width) (r .start) (r .end) (sym (c .before .before .before .before .pages-refusal .ensures) ∙ c .before .before .before .if1 .left) in
+    (omega (arith, c .bytes .ensures, x .ends .some), omega (arith, c .bytes .ensures, x .ends .some), omega (arith, c .bytes .ensures, x .ends .some), omega (arith, c .bytes .ensures, x .ends .some))
+
+page-answer-requires : tie.Need-page-answer-requires
+page-answer-requires c κs = search needs
+
+page-at-size-requires : tie.Need-page-at-size-requires
+page-at-size-requires c κs = search needs
+
+page-at-size-requires-2 : tie.Need-page-at-size-requires-2
+page-at-size-requires-2 c κs = search needs
+
+returns-3 : tie.Need-returns-3
+returns-3 c =
+    let r = c .before .before .before .before .before .before .before .before .before .before .before .args .range in
+    let v = c .before .before .before .before .before .before .before .before .before .before .before .args .width in
+    let p = sym (c .before .before .before .before .before .before .before .before .pages-refusal .ensures) ∙ c .before .before .before .before .before .before .before .if1 .left in
+    let x = accepted v (r .start) (r .end) p in
+    rw (
+      c .before .before .page-answer .ensures,
+      c .before .page-at-size .ensures,
+      c .page-at-size2 .ensures,
+    ) (ap (λ (d : draw.Draw). settledInclusive (widthOf v) r false d) (c .before .before .before .back-through .ensures) ∙ nth-back-inclusive-settled v r (c .before .before .before .before .before .before .before .before .before .before .before .args .n) p (sym (c .before .before .before .before .before .before .gap-back-through .ensures) ∙ c .before .before .before .before .before .if2 .left))
+
+pub draw-nth-back-inclusive-at-spec : {M : Type 1} → statement M
+draw-nth-back-inclusive-at-spec =
+    tie.close
+    (tie.spec
+    pages-refusal-requires
+    returns
+    gap-back-through-requires
+    returns-2
+    bytes-requires
+    sub-back-through
+    sub-back-through-2
+    back-through-requires
+    page-answer-requires
+    page-at-size-requires
+    page-at-size-requires-2
+    returns-3)

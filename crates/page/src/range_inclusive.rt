@@ -1,0 +1,237 @@
+// A range of pages, with its end.
+use crate::draws::gap_back_through;
+use crate::draws::gap_front_through;
+use crate::draws::page_answer;
+use crate::draws::page_at_size;
+use crate::page::Page;
+use crate::page::PageAnswer;
+use crate::width::pages_refusal;
+use addr::Width;
+use answer::BoolAnswer;
+use answer::DRAW_MEETS_GAP;
+use answer::OVERFLOW;
+use answer::U64Answer;
+use draw::back_through;
+use draw::front_through;
+use draw::len_through;
+ghost use mathlib.Core.Path.{_≡_};
+ghost use Rattle.answer.specs.Answers.{u64Of, boolOf};
+ghost use Rattle.addr.specs.Widths.{widthOf};
+ghost use Rattle.addr.specs.Address.{virt};
+ghost use Rattle.addr.specs.Range.{makeRange, emptyThrough, countThrough, bytesThrough};
+ghost use Rattle.page.specs.Page.{start, start as Page·start, bytes};
+ghost use Rattle.page.specs.Range.{rangeInclusiveOf, nthInclusiveOf, nthBackInclusiveOf};
+
+pub struct PageRangeInclusive {
+    pub start: Page,
+    pub end: Page,
+}
+
+pub enum PageRangeInclusiveAnswer {
+    Range(PageRangeInclusive),
+    Refused(u8),
+}
+
+// What a draw answers, and the range left.
+pub struct PageDrawInclusive {
+    pub answer: PageAnswer,
+    pub range: PageRangeInclusive,
+}
+
+impl Page {
+    // The range from start to end; 7 if their sizes differ.
+    pub fn range_inclusive(start: Page, end: Page) -> PageRangeInclusiveAnswer
+        ensures { λ r. ⌜ rangeInclusiveOf r ≡ makeRange (virt 48) (Page·start start) (bytes start) (Page·start end) (bytes end) ⌝ }
+    {
+        let refused = pages_refusal(Width::Bits48, start, end);
+        if refused != 0 {
+            return PageRangeInclusiveAnswer::Refused(refused);
+        }
+        PageRangeInclusiveAnswer::Range(PageRangeInclusive { start, end })
+    }
+}
+
+// At either width: the page n places from the front, and the range from just past it.
+fn draw_nth_inclusive_at(width: Width, range: PageRangeInclusive, n: u64) -> PageDrawInclusive
+    ensures { λ d. ⌜ d ≡ nthInclusiveOf (widthOf width) range n ⌝ }
+{
+    let start = range.start;
+    let end = range.end;
+    let refused = pages_refusal(width, start, end);
+    if refused != 0 {
+        return PageDrawInclusive {
+            answer: PageAnswer::Refused(refused),
+            range,
+        };
+    }
+    let size = start.size;
+    let a = start.start_address.0;
+    let b = end.start_address.0;
+    if gap_front_through(width, a, b, size, n) {
+        return PageDrawInclusive {
+            answer: PageAnswer::Refused(DRAW_MEETS_GAP),
+            range,
+        };
+    }
+    let d = front_through(a, b, size, u64::MAX - (size.bytes() - 1), n);
+    let item = d.item;
+    let end_size = end.size;
+    PageDrawInclusive {
+        answer: page_answer(size, item),
+        range: PageRangeInclusive {
+            start: page_at_size(size, d.start),
+            end: page_at_size(end_size, d.end),
+        },
+    }
+}
+
+// The page n places from the front, and the range from just past it.
+pub fn draw_nth_inclusive(range: PageRangeInclusive, n: u64) -> PageDrawInclusive
+    ensures { λ d. ⌜ d ≡ nthInclusiveOf 48 range n ⌝ }
+{
+    draw_nth_inclusive_at(Width::Bits48, range, n)
+}
+
+// The same with n = 0.
+pub fn draw_next_inclusive(range: PageRangeInclusive) -> PageDrawInclusive
+    ensures { λ d. ⌜ d ≡ nthInclusiveOf 48 range 0 ⌝ }
+{
+    draw_nth_inclusive_at(Width::Bits48, range, 0)
+}
+
+// At either width: the page n places from the back, and the range up to it.
+fn draw_nth_back_inclusive_at(width: Width, range: PageRangeInclusive, n: u64) -> PageDrawInclusive
+    ensures { λ d. ⌜ d ≡ nthBackInclusiveOf (widthOf width) range n ⌝ }
+{
+    let start = range.start;
+    let end = range.end;
+    let refused = pages_refusal(width, start, end);
+    if refused != 0 {
+        return PageDrawInclusive {
+            answer: PageAnswer::Refused(refused),
+            range,
+        };
+    }
+    let size = start.size;
+    let a = start.start_address.0;
+    let b = end.start_address.0;
+    if gap_back_through(width, a, b, size, n) {
+        return PageDrawInclusive {
+            answer: PageAnswer::Refused(DRAW_MEETS_GAP),
+            range,
+        };
+    }
+    let d = back_through(a, b, size, u64::MAX - (size.bytes() - 1), n);
+    let item = d.item;
+    let end_size = end.size;
+    PageDrawInclusive {
+        answer: page_answer(size, item),
+        range: PageRangeInclusive {
+            start: page_at_size(size, d.start),
+            end: page_at_size(end_size, d.end),
+        },
+    }
+}
+
+// The page n places from the back, and the range up to it.
+pub fn draw_nth_back_inclusive(range: PageRangeInclusive, n: u64) -> PageDrawInclusive
+    ensures { λ d. ⌜ d ≡ nthBackInclusiveOf 48 range n ⌝ }
+{
+    draw_nth_back_inclusive_at(Width::Bits48, range, n)
+}
+
+// The same with n = 0.
+pub fn draw_next_back_inclusive(range: PageRangeInclusive) -> PageDrawInclusive
+    ensures { λ d. ⌜ d ≡ nthBackInclusiveOf 48 range 0 ⌝ }
+{
+    draw_nth_back_inclusive_at(Width::Bits48, range, 0)
+}
+
+impl PageRangeInclusive {
+    pub fn is_empty(self) -> BoolAnswer
+        ensures { λ r. ⌜ boolOf r ≡ emptyThrough (virt 48) (start (self .start)) (bytes (self .start)) (start (self .end)) (bytes (self .end)) ⌝ }
+    {
+        let start = self.start;
+        let end = self.end;
+        let refused = pages_refusal(Width::Bits48, start, end);
+        if refused != 0 {
+            return BoolAnswer::Refused(refused);
+        }
+        BoolAnswer::Value(end.start_address.0 < start.start_address.0)
+    }
+
+    // How many pages the range has by its numbers, so with those that the gap would have.
+    pub fn len(self) -> U64Answer
+        ensures { λ r. ⌜ u64Of r ≡ countThrough (virt 48) (start (self .start)) (bytes (self .start)) (start (self .end)) (bytes (self .end)) ⌝ }
+    {
+        let start = self.start;
+        let end = self.end;
+        let refused = pages_refusal(Width::Bits48, start, end);
+        if refused != 0 {
+            return U64Answer::Refused(refused);
+        }
+        let size = start.size;
+        U64Answer::Value(len_through(start.start_address.0, end.start_address.0, size))
+    }
+
+    // How many bytes the range has; 5 from page 0 to the last page.
+    pub fn size(self) -> U64Answer
+        ensures { λ r. ⌜ u64Of r ≡ bytesThrough (virt 48) (start (self .start)) (bytes (self .start)) (start (self .end)) (bytes (self .end)) ⌝ }
+    {
+        let start = self.start;
+        let end = self.end;
+        let refused = pages_refusal(Width::Bits48, start, end);
+        if refused != 0 {
+            return U64Answer::Refused(refused);
+        }
+        let size = start.size;
+        let a = start.start_address.0;
+        let b = end.start_address.0;
+        let bytes = size.bytes();
+        if b < a {
+            return U64Answer::Value(0);
+        }
+        if u64::MAX - (bytes - 1) <= b - a {
+            return U64Answer::Refused(OVERFLOW);
+        }
+        U64Answer::Value(b - a + bytes)
+    }
+}
+
+impl PageRangeInclusive {
+    // The first page; leaves the range from just past it.
+    pub fn next(&mut self) -> PageAnswer
+        ensures { λ a. ⌜ (a ≡ nthInclusiveOf 48 (now (self .entry)) 0 .answer) × (now (self .exit) ≡ nthInclusiveOf 48 (now (self .entry)) 0 .range) ⌝ }
+    {
+        let d = draw_nth_inclusive(*self, 0);
+        *self = d.range;
+        d.answer
+    }
+
+    // The page n places from the front; leaves the range from just past it.
+    pub fn nth(&mut self, n: u64) -> PageAnswer
+        ensures { λ a. ⌜ (a ≡ nthInclusiveOf 48 (now (self .entry)) n .answer) × (now (self .exit) ≡ nthInclusiveOf 48 (now (self .entry)) n .range) ⌝ }
+    {
+        let d = draw_nth_inclusive(*self, n);
+        *self = d.range;
+        d.answer
+    }
+
+    // The last page; leaves the range up to it.
+    pub fn next_back(&mut self) -> PageAnswer
+        ensures { λ a. ⌜ (a ≡ nthBackInclusiveOf 48 (now (self .entry)) 0 .answer) × (now (self .exit) ≡ nthBackInclusiveOf 48 (now (self .entry)) 0 .range) ⌝ }
+    {
+        let d = draw_nth_back_inclusive(*self, 0);
+        *self = d.range;
+        d.answer
+    }
+
+    // The page n places from the back; leaves the range up to it.
+    pub fn nth_back(&mut self, n: u64) -> PageAnswer
+        ensures { λ a. ⌜ (a ≡ nthBackInclusiveOf 48 (now (self .entry)) n .answer) × (now (self .exit) ≡ nthBackInclusiveOf 48 (now (self .entry)) n .range) ⌝ }
+    {
+        let d = draw_nth_back_inclusive(*self, n);
+        *self = d.range;
+        d.answer
+    }
+}
