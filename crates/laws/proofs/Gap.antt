@@ -37,7 +37,7 @@ pub record PageEnds (w s a b : ℕ) : Type 0 where
   pub halves : half w ≤ firstHigh w
 
 module _ (w s a b : ℕ) (p : PageEnds w s a b) where
-  div-le : (x y : ℕ) → x ≤ y → x / s ≤ y / s
+  pub div-le : (x y : ℕ) → x ≤ y → x / s ≤ y / s
   div-le x y h = le-div-iff-mul-le (p .some) .1 (le-trans (div-mul-le-self x s) h)
 
   nothing-below : (x y : ℕ) → y ≤ x → below x y s ≡ []
@@ -48,38 +48,38 @@ module _ (w s a b : ℕ) (p : PageEnds w s a b) where
   unfolding run lenThrough
   nothing-through x y h = rw (lt-ltb y x h)
 
-  -- a range in one half is its run
-  pub pages-low : b ≤ half w → pagesBelow w a b s ≡ below a b s
+  -- a range in one half is its run, whichever its ends
+  pub pages-low : (x y : ℕ) → y ≤ half w → pagesBelow w x y s ≡ below x y s
   unfolding pagesBelow
-  pages-low h = rw (min-eq-left h, nothing-below (max a (firstHigh w)) b (omega (arith, p .halves)), append-nil)
+  pages-low x y h = rw (min-eq-left h, nothing-below (max x (firstHigh w)) y (omega (arith, p .halves)), append-nil)
 
-  pub pages-high : firstHigh w ≤ a → pagesBelow w a b s ≡ below a b s
+  pub pages-high : (x y : ℕ) → firstHigh w ≤ x → pagesBelow w x y s ≡ below x y s
   unfolding pagesBelow
-  pages-high h = rw (nothing-below a (min b (half w)) (omega (arith, p .halves)), max-eq-left h)
+  pages-high x y h = rw (nothing-below x (min y (half w)) (omega (arith, p .halves)), max-eq-left h)
 
-  pub through-low : b + s ≤ half w → pagesThrough w a b s ≡ through a b s
+  pub through-low : (x y : ℕ) → y + s ≤ half w → pagesThrough w x y s ≡ through x y s
   unfolding pagesThrough
-  through-low h =
-      let e : min b (half w - s) ≡ b = min-eq-left (omega arith) in
-      rw (e, nothing-through (max a (firstHigh w)) b (omega (arith, p .halves, p .some)), append-nil)
+  through-low x y h =
+      let e : min y (half w - s) ≡ y = min-eq-left (omega arith) in
+      rw (e, nothing-through (max x (firstHigh w)) y (omega (arith, p .halves, p .some)), append-nil)
 
-  pub through-high : firstHigh w ≤ a → pagesThrough w a b s ≡ through a b s
+  pub through-high : (x y : ℕ) → firstHigh w ≤ x → pagesThrough w x y s ≡ through x y s
   unfolding pagesThrough
-  through-high h = rw (nothing-through a (min b (half w - s)) (omega (arith, p .halves, p .some, p .room)), max-eq-left h)
+  through-high x y h = rw (nothing-through x (min y (half w - s)) (omega (arith, p .halves, p .some, p .room)), max-eq-left h)
 
   -- across the gap, the item at n from the front is among the low pages
   front-at : (xs : List ℕ) (k d n : ℕ) → n < d → d ≤ k → getElem? (run a s d ++ xs) n ≡ getElem? (run a s k) n
   front-at xs k d n h l = append-at (run a s d) xs n (rw run-length h) ∙ rw (run-at, run-at, lt-ltb n d h, lt-ltb n k (omega arith))
 
   -- what a draw that does not meet the gap says of n
-  not-gap : (x y z : Bool) → cond x (cond y z false) false ≡ false → x ≡ true → y ≡ true → z ≡ false
+  pub not-gap : (x y z : Bool) → cond x (cond y z false) false ≡ false → x ≡ true → y ≡ true → z ≡ false
   not-gap true true z e u v = e
   not-gap true false z e u v = let o : _≡_ {A = ℕ} 0 1 = cc in absurd (omega arith)
   not-gap false y z e u v = let o : _≡_ {A = ℕ} 0 1 = cc in absurd (omega arith)
 
   pub front-below : (n : ℕ) → gapFrontBelow w a b s n ≡ false → getElem? (pagesBelow w a b s) n ≡ getElem? (below a b s) n
   unfolding gapFrontBelow pagesBelow lenBelow
-  front-below n g = by-cases (decLt a (half w)) low (λ m. rw (pages-high (p .high-start (omega arith))))
+  front-below n g = by-cases (decLt a (half w)) low (λ m. rw (pages-high a b (p .high-start (omega arith))))
     where
       crossing : a < half w → half w ≤ b → getElem? (pagesBelow w a b s) n ≡ getElem? (below a b s) n
       crossing h l =
@@ -88,11 +88,11 @@ module _ (w s a b : ℕ) (p : PageEnds w s a b) where
           rw (min-eq-right l) (front-at (below (max a (firstHigh w)) b s) ((b - a) / s) ((half w - a) / s) n (omega arith) (div-le (half w - a) (b - a) (omega arith)))
 
       low : a < half w → getElem? (pagesBelow w a b s) n ≡ getElem? (below a b s) n
-      low h = by-cases (decLt b (half w)) (λ l. rw (pages-low (omega arith))) (λ l. crossing h (omega arith))
+      low h = by-cases (decLt b (half w)) (λ l. rw (pages-low a b (omega arith))) (λ l. crossing h (omega arith))
 
   pub front-through : (n : ℕ) → gapFrontThrough w a b s n ≡ false → getElem? (pagesThrough w a b s) n ≡ getElem? (through a b s) n
   unfolding gapFrontThrough pagesThrough lenBelow
-  front-through n g = by-cases (decLt a (half w)) low (λ m. rw (through-high (p .high-start (omega arith))))
+  front-through n g = by-cases (decLt a (half w)) low (λ m. rw (through-high a b (p .high-start (omega arith))))
     where
       crossing : a < half w → half w - s ≤ b → getElem? (pagesThrough w a b s) n ≡ getElem? (through a b s) n
       crossing h l =
@@ -102,7 +102,7 @@ module _ (w s a b : ℕ) (p : PageEnds w s a b) where
           (front-at (through (max a (firstHigh w)) b s) ((b + s - a) / s) ((half w - a) / s) n (omega arith) (div-le (half w - a) (b + s - a) (omega arith)))
 
       low : a < half w → getElem? (pagesThrough w a b s) n ≡ getElem? (through a b s) n
-      low h = by-cases (decLt b (half w - s)) (λ l. rw (through-low (omega arith))) (λ l. crossing h (omega arith))
+      low h = by-cases (decLt b (half w - s)) (λ l. rw (through-low a b (omega arith))) (λ l. crossing h (omega arith))
 
   -- and the item at n from the back is among the high pages
   back-high : (xs : List ℕ) (h k j n : ℕ) → n < j → j ≤ k → h + (j - 1 - n) * s ≡ a + (k - 1 - n) * s
@@ -114,7 +114,7 @@ module _ (w s a b : ℕ) (p : PageEnds w s a b) where
   -- the same item, counted from either end
   pub back-below : (n : ℕ) → gapBackBelow w a b s n ≡ false → getElem? (reverse (pagesBelow w a b s)) n ≡ getElem? (reverse (below a b s)) n
   unfolding gapBackBelow pagesBelow lenBelow
-  back-below n g = by-cases (decLt b (half w)) (λ l. rw (pages-low (omega arith))) (λ l. high (p .high-end (omega arith)))
+  back-below n g = by-cases (decLt b (half w)) (λ l. rw (pages-low a b (omega arith))) (λ l. high (p .high-end (omega arith)))
     where
       crossing : firstHigh w ≤ b → a < half w → getElem? (reverse (pagesBelow w a b s)) n ≡ getElem? (reverse (below a b s)) n
       crossing hb h =
@@ -132,11 +132,11 @@ module _ (w s a b : ℕ) (p : PageEnds w s a b) where
           rw m (back-high (below a (min b (half w)) s) (firstHigh w) k j n (omega arith) l (omega (arith, p .apart, p .above, p .halves)))
 
       high : firstHigh w ≤ b → getElem? (reverse (pagesBelow w a b s)) n ≡ getElem? (reverse (below a b s)) n
-      high hb = by-cases (decLt a (half w)) (crossing hb) (λ m. rw (pages-high (p .high-start (omega arith))))
+      high hb = by-cases (decLt a (half w)) (crossing hb) (λ m. rw (pages-high a b (p .high-start (omega arith))))
 
   pub back-through : (n : ℕ) → gapBackThrough w a b s n ≡ false → getElem? (reverse (pagesThrough w a b s)) n ≡ getElem? (reverse (through a b s)) n
   unfolding gapBackThrough pagesThrough lenBelow
-  back-through n g = by-cases (decLt b (half w)) (λ l. rw (through-low (p .low-end l))) (λ l. high (p .high-end (omega arith)))
+  back-through n g = by-cases (decLt b (half w)) (λ l. rw (through-low a b (p .low-end l))) (λ l. high (p .high-end (omega arith)))
     where
       crossing : firstHigh w ≤ b → a ≤ firstHigh w → getElem? (reverse (pagesThrough w a b s)) n ≡ getElem? (reverse (through a b s)) n
       crossing hb h =
@@ -158,7 +158,7 @@ module _ (w s a b : ℕ) (p : PageEnds w s a b) where
           (back-high (through a (min b (half w - s)) s) (firstHigh w) (k + 1) (j + 1) n (omega arith) (omega arith) (omega (arith, p .apart, p .above)))
 
       high : firstHigh w ≤ b → getElem? (reverse (pagesThrough w a b s)) n ≡ getElem? (reverse (through a b s)) n
-      high hb = by-cases (decLt (firstHigh w) a) (λ m. rw (through-high (omega arith))) (λ m. crossing hb (omega arith))
+      high hb = by-cases (decLt (firstHigh w) a) (λ m. rw (through-high a b (omega arith))) (λ m. crossing hb (omega arith))
 
 -- two canonical multiples of a size below the width are such ends
 module _ (w k a b : ℕ) (v : IsWidth w) (h : k < w) (fa : a < 2 ^ 64) (fb : b < 2 ^ 64) (ca : signExtend w a ≡ a) (cb : signExtend w b ≡ b) (za : a % 2 ^ k ≡ 0) (zb : b % 2 ^ k ≡ 0) where

@@ -9,3 +9,4 @@ pub mod Run
 pub mod Draw
 pub mod Gap
 pub mod Left
+pub mod PagesLeft

@@ -1,3 +1,4 @@
 pub mod Steps
 pub mod Assembled
 pub mod Ranges
+pub mod Left
