@@ -1,0 +1,9 @@
+pub mod First
+pub mod Found
+pub mod Steps
+pub mod Lists
+pub mod Calls
+pub mod Unique
+pub mod Walk
+pub mod Spans
+pub mod Example

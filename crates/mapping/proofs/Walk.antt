@@ -1,0 +1,110 @@
+-- The walk over tables: the pages under an entry go by that entry, and the pages below a root table meet what is asked of the pages of a space.
+use Prim.Native.Nat.{ℕ, zero, suc, _+_, _-_, _*_, _/_, _%_, _^_, _≤_, _<_}
+use mathlib.Core.Path.{_≡_, refl, sym, ap, _∙_}
+use mathlib.Core.List.{List}
+use mathlib.Core.Option.{Option, none, some}
+use native.Mathlib.Omega.{arith}
+use lib.Pow.{pow-pos, pow-mono, pow-add, shr-shr}
+use lib.ListN.{getD}
+use Rattle.mapping.specs.Pages.{Rights, Reason, reserved, outside, Spanned}
+use Rattle.mapping.specs.Pages as page
+use Rattle.mapping.specs.Walk.{Entry, notPresent, reservedBit, maps, table, Walked, absent, broken, mapped, joined, allRights, pagesOf, step, walk, stateOf, space}
+
+-- the entry of level n + 1 that page x is under, in the table t
+abbrev pub entryOf : (entry : ℕ → ℕ → Entry) (n : ℕ) (t : List ℕ) (x : ℕ) → Entry
+entryOf entry n t x = entry (n + 1) (getD t (x / pagesOf n % 512) 0)
+
+-- pages under one entry are under one entry at each level above
+same-above : (l n x y : ℕ) → l ≤ n → y / pagesOf l ≡ x / pagesOf l → y / pagesOf n ≡ x / pagesOf n
+same-above l n x y b d = shift y ∙ ap (λ (k : ℕ). k / 2 ^ (9 * (n - l))) d ∙ sym (shift x)
+  where
+    shift : (z : ℕ) → z / 2 ^ (9 * n) ≡ z / 2 ^ (9 * l) / 2 ^ (9 * (n - l))
+    shift z = ap (λ (k : ℕ). z / 2 ^ k) (omega arith) ∙ sym (shr-shr z (9 * l) (9 * (n - l)))
+
+absent-broken : {a : Walked} {k l : ℕ} {c : Reason} → a ≡ absent k → a ≡ broken l c → ⊥
+absent-broken e z = let n : _≡_ {A = ℕ} 0 1 = cc in omega arith
+
+mapped-broken : {a : Walked} {g k l : ℕ} {h : Rights} {c : Reason} → a ≡ mapped g k h → a ≡ broken l c → ⊥
+mapped-broken e z = let n : _≡_ {A = ℕ} 0 1 = cc in omega arith
+
+state-broken : (a : Walked) (l : ℕ) (c : Reason) → stateOf a ≡ page.broken l c → a ≡ broken l c
+state-broken (absent k) l c e = cc
+state-broken (broken k d) l c e = cc
+state-broken (mapped g k h) l c e = cc
+
+module _ (entry : ℕ → ℕ → Entry) (memory : ℕ → Option (List ℕ)) where
+  -- a page y under the entry of level n + 1 that page x is under
+  module _ (n : ℕ) (t : List ℕ) (r : Rights) (x y : ℕ) (same : y / pagesOf n ≡ x / pagesOf n) where
+    pub walk-step : (v : Entry) → entryOf entry n t x ≡ v → walk entry memory (suc n) t r y ≡ step memory (λ t′ r′. walk entry memory n t′ r′ y) n r y v
+    unfolding walk
+    walk-step v e = rw (same, e)
+
+    pub walk-absent : entryOf entry n t x ≡ notPresent → walk entry memory (suc n) t r y ≡ absent (n + 1)
+    unfolding step
+    walk-absent = walk-step notPresent
+
+    pub walk-reserved : entryOf entry n t x ≡ reservedBit → walk entry memory (suc n) t r y ≡ broken (n + 1) reserved
+    unfolding step
+    walk-reserved = walk-step reservedBit
+
+    pub walk-mapped : (g : ℕ) (h : Rights) → entryOf entry n t x ≡ maps g h → walk entry memory (suc n) t r y ≡ mapped (g + y % pagesOf n) (n + 1) (joined r h)
+    unfolding step
+    walk-mapped g h = walk-step (maps g h)
+
+    pub walk-outside : (a : ℕ) (h : Rights) → entryOf entry n t x ≡ table a h → memory a ≡ none → walk entry memory (suc n) t r y ≡ broken (n + 1) outside
+    unfolding step
+    walk-outside a h e m = walk-step (table a h) e ∙ rw (m, step)
+
+    pub walk-below : (a : ℕ) (h : Rights) (t′ : List ℕ) → entryOf entry n t x ≡ table a h → memory a ≡ some t′
+        → walk entry memory (suc n) t r y ≡ walk entry memory n t′ (joined r h) y
+    unfolding step
+    walk-below a h t′ e m = walk-step (table a h) e ∙ rw (m, step)
+
+  -- a broken entry's level is one of the levels walked, and the pages of its span are broken alike
+  record BrokenSpan (n : ℕ) (t : List ℕ) (r : Rights) (x l : ℕ) (c : Reason) : Type 0 where
+    above-zero : 0 < l
+    at-most : l ≤ n
+    alike : (y : ℕ) → y / pagesOf (l - 1) ≡ x / pagesOf (l - 1) → walk entry memory n t r y ≡ broken l c
+
+  broken-span : (n : ℕ) (t : List ℕ) (r : Rights) (x l : ℕ) (c : Reason) → walk entry memory n t r x ≡ broken l c → BrokenSpan n t r x l c
+  unfolding walk
+  broken-span zero t r x l c e = absurd (absent-broken refl e)
+  broken-span (suc n) t r x l c e = go (entryOf entry n t x) refl (λ t′ r′. broken-span n t′ r′ x l c)
+    where
+      -- the entry itself is broken
+      here : (d : Reason) → ((y : ℕ) → y / pagesOf n ≡ x / pagesOf n → walk entry memory (suc n) t r y ≡ broken (n + 1) d) → BrokenSpan (suc n) t r x l c
+      here d f =
+          let same : broken (n + 1) d ≡ broken l c = sym (f x refl) ∙ e in
+          let level : n + 1 ≡ l = cc in
+          record { above-zero = omega arith; at-most = omega arith; alike = λ y z. f y (same-above (l - 1) n x y (omega arith) z) ∙ same }
+
+      down : (a : ℕ) (h : Rights) → entryOf entry n t x ≡ table a h → (m : Option (List ℕ)) → memory a ≡ m
+          → ((t′ : List ℕ) (r′ : Rights) → walk entry memory n t′ r′ x ≡ broken l c → BrokenSpan n t′ r′ x l c) → BrokenSpan (suc n) t r x l c
+      down a h v none m ih = here outside (λ y z. walk-outside n t r x y z a h v m)
+      down a h v (some t′) m ih =
+          let s = ih t′ (joined r h) (sym (walk-below n t r x x refl a h t′ v m) ∙ e) in
+          record {
+            above-zero = s .above-zero;
+            at-most = omega arith;
+            alike = λ y z. walk-below n t r x y (same-above (l - 1) n x y (omega arith) z) a h t′ v m ∙ s .alike y z;
+          }
+
+      go : (v : Entry) → entryOf entry n t x ≡ v → ((t′ : List ℕ) (r′ : Rights) → walk entry memory n t′ r′ x ≡ broken l c → BrokenSpan n t′ r′ x l c)
+          → BrokenSpan (suc n) t r x l c
+      go notPresent v ih = absurd (absent-broken (walk-absent n t r x x refl v) e)
+      go reservedBit v ih = here reserved (λ y z. walk-reserved n t r x y z v)
+      go (maps g h) v ih = absurd (mapped-broken (walk-mapped n t r x x refl g h v) e)
+      go (table a h) v ih = down a h v (memory a) refl ih
+
+  pub spanned : (levels : ℕ) (t : List ℕ) → Spanned (space entry memory levels t)
+  spanned n t =
+      record {
+        halves = pow-mono (omega arith);
+        some = λ x l c b e. pow-pos (9 * (l - 1));
+        divides = λ x l c b e.
+            (2 ^ (9 * n - 9 * (l - 1)), ap (λ (k : ℕ). 2 ^ k) (omega (arith, span x l c e)) ∙ pow-add 2 (9 * n - 9 * (l - 1)) (9 * (l - 1)));
+        alike = λ x y l c b e d. ap stateOf (span x l c e .alike y d);
+      }
+    where
+      span : (x l : ℕ) (c : Reason) → stateOf (walk entry memory n t allRights x) ≡ page.broken l c → BrokenSpan n t allRights x l c
+      span x l c e = broken-span n t allRights x l c (state-broken (walk entry memory n t allRights x) l c e)

@@ -1,0 +1,96 @@
+-- That a list of runs and stops agrees with the pages looked at singly: document 01, "Words of demand 3".
+use Prim.Native.Nat.{ℕ, _+_, _*_, _-_, _/_, _≤_, _<_}
+use mathlib.Core.Path.{_≡_}
+use mathlib.Core.Logic.{_⊎_}
+use mathlib.Core.List.{List, [], _∷_, _++_, map}
+use lib.ListN.{length, getD}
+use Rattle.mapping.specs.Pages.{Rights, Reason, PageState, absent, broken, mapped, Space, Spanned}
+use Rattle.mapping.specs.Search.{Answer, end, stop, run, search, next, Searches}
+
+-- "It holds that many pages from the first"
+unfoldable pub InRun : Answer → ℕ → Type 0
+InRun end x = ⊥
+InRun (stop q l r) x = ⊥
+InRun (run q g c h) x = (q ≤ x) × (x < q + c)
+
+-- "Under a stop are the pages of the broken entry's span: all whose indices down to its level are those of q"
+unfoldable pub UnderStop : Space → Answer → ℕ → Type 0
+UnderStop s end x = ⊥
+UnderStop s (stop q l r) x = x / s .span l ≡ q / s .span l
+UnderStop s (run q g c h) x = ⊥
+
+-- what an answer says of a page that it holds: "the page i places on has the frame i places past the first frame, and the run's rights"
+unfoldable pub says : Answer → ℕ → PageState
+says end x = absent
+says (stop q l r) x = broken l r
+says (run q g c h) x = mapped (g + (x - q)) h
+
+-- the answer at `i` of a list; past its end stands `end`, which holds no page
+abbrev pub nth : List Answer → ℕ → Answer
+nth answers i = getD answers i end
+
+abbrev pub Holds : Space → Answer → ℕ → Type 0
+Holds s a x = InRun a x ⊎ UnderStop s a x
+
+-- `P` holds at exactly one place of a list, and `Q` holds there
+abbrev pub ExactlyOne : (P Q : ℕ → Type 0) → Type 0
+ExactlyOne P Q = (i : ℕ) × P i × Q i × ((j : ℕ) → P j → j ≡ i)
+
+-- "Not extendable means: in its half, the page just after a run isn't mapped with the run's rights to the frame after its last, nor the page just before to the frame
+-- before its first." The run has a page, and is in one half
+pub record Maximal (s : Space) (q g c : ℕ) (h : Rights) : Type 0 where
+  pub some : 0 < c
+  pub in-half : q < s .high → q + c ≤ s .high
+  pub after : q + c < s .size → (q + c ≡ s .high → ⊥) → s .page (q + c) ≡ mapped (g + c) h → ⊥
+  pub before : (y k : ℕ) → y + 1 ≡ q → (q ≡ s .high → ⊥) → k + 1 ≡ g → s .page y ≡ mapped k h → ⊥
+
+-- the claims about a list of answers, `passed` the next page that it left ("Passed are the pages before the next page, and all pages once the search is over")
+pub record Agrees (s : Space) (answers : List Answer) (passed : ℕ) : Type 0 where
+  -- a passed page that is mapped is in exactly one run, which says its frame and rights, and under no stop
+  pub mapped-page : (x g : ℕ) (h : Rights) → x < passed → s .page x ≡ mapped g h
+      → ExactlyOne (λ i. InRun (nth answers i) x) (λ i. says (nth answers i) x ≡ mapped g h) × ((i : ℕ) → UnderStop s (nth answers i) x → ⊥)
+  -- one that is broken is under exactly one stop, which says its level and reason, and in no run
+  pub broken-page : (x l : ℕ) (r : Reason) → x < passed → s .page x ≡ broken l r
+      → ExactlyOne (λ i. UnderStop s (nth answers i) x) (λ i. says (nth answers i) x ≡ broken l r) × ((i : ℕ) → InRun (nth answers i) x → ⊥)
+  -- one that is absent is in no run and under no stop
+  pub absent-page : (x i : ℕ) → x < passed → s .page x ≡ absent → (InRun (nth answers i) x → ⊥) × (UnderStop s (nth answers i) x → ⊥)
+  -- runs and stops hold passed pages only
+  pub runs-passed : (x i : ℕ) → InRun (nth answers i) x → x < passed
+  pub stops-passed : (x i : ℕ) → UnderStop s (nth answers i) x → x < passed
+  -- pages ascend, over the gap too
+  pub ascending : (i j x y : ℕ) → i < j → Holds s (nth answers i) x → Holds s (nth answers j) y → x < y
+  -- no run can be extended
+  pub maximal : (i q g c : ℕ) (h : Rights) → nth answers i ≡ run q g c h → Maximal s q g c h
+  -- "in these lists q is the first of them"
+  pub stop-first : (i q l : ℕ) (r : Reason) → nth answers i ≡ stop q l r → q ≡ q / s .span l * s .span l
+  -- "none follows once the search is over"
+  pub end-last : (i : ℕ) → nth answers i ≡ end → nth answers (i + 1) ≡ end
+  -- passed are pages of the space
+  pub inside : passed ≤ s .size
+
+-- what a call of the search answers: refused with a number, or answered
+pub data Reply : Type 0 where
+  refused : (number : ℕ) → Reply
+  answered : Answer → Reply
+
+-- the replies of a list of calls, each from the next page that the one before it left; none follows a refusal
+pub data Calls (s : Space) (call : ℕ → Reply) : ℕ → List Reply → ℕ → Type 0 where
+  none : {p : ℕ} → Calls s call p [] p
+  refusal : {p n : ℕ} → p < s .size → call p ≡ refused n → Calls s call p (refused n ∷ []) p
+  more : {p e : ℕ} {a : Answer} {replies : List Reply} → p < s .size → call p ≡ answered a → Calls s call (next s a) replies e → Calls s call p (answered a ∷ replies) e
+
+-- the claims about a list of calls from page zero
+pub record Agreement (s : Space) (call : ℕ → Reply) (replies : List Reply) (passed : ℕ) : Type 0 where
+  pub answers : List Answer
+  -- no search of the list is refused
+  pub unrefused : replies ≡ map answered answers
+  pub agrees : Agrees s answers passed
+  -- every list extends to one that is over, and then all pages are passed
+  pub extends : (later : List Reply) × Calls s call 0 (replies ++ later) (s .size)
+
+-- any list of runs and stops that meets the claims for the same passed pages is the same list
+abbrev pub RunsAndStops : List Answer → Type 0
+RunsAndStops answers = (i : ℕ) → i < length answers → nth answers i ≡ end → ⊥
+
+abbrev pub Unique : Type 0
+Unique = (s : Space) (a b : List Answer) (passed : ℕ) → RunsAndStops a → RunsAndStops b → Agrees s a passed → Agrees s b passed → a ≡ b

@@ -1,0 +1,4 @@
+pub mod Pages
+pub mod Search
+pub mod Agreement
+pub mod Walk
