@@ -8,7 +8,8 @@ use borrow.Author.Tests.{eqb-true, eq-eqb, ne-eqb, lt-ltb, le-ltb, le-leb, lt-le
 use Rattle.answer.specs.Outcome.{Outcome, gives, refuses, unless}
 use Rattle.answer.specs.Refusal.{overflow, sizesDiffer}
 use Rattle.addr.specs.Address.{Space, virt, phys}
-use Rattle.addr.specs.Item.{item, givenItem, itemRefusal, plusItem, minusItem, givenItems, itemsRefusal}
+use Rattle.addr.specs.Item.{item, givenItem, itemRefusal, plusItem, minusItem, givenItems, firstRefusal, itemsRefusal}
+use Rattle.addr.specs.Range.{refusedOr}
 
 module _ (s : Space) (a z : ℕ) where
   -- another number refuses
@@ -30,6 +31,15 @@ module _ (s : Space) (a z : ℕ) where
       go true e true f = (e, eqb-true (a % z) 0 f)
       go true e false f = let q = simp (e, f) at r in absurd (omega arith)
       go false e t f = let q = simp e at r in absurd (n q)
+
+-- a number that is not 0 comes first, and refuses
+pub first-refused : (k m : ℕ) → (k ≡ 0 → ⊥) → firstRefusal k m ≡ k
+first-refused zero m h = absurd (h refl)
+first-refused (suc k) m h = refl
+
+pub refused-or : {A : Type 0} (k : ℕ) (f : ℕ → A) (d : A) → (k ≡ 0 → ⊥) → refusedOr k f d ≡ f k
+refused-or zero f d h = absurd (h refl)
+refused-or (suc k) f d h = refl
 
 -- the number for two items, by those for each: the first that is not 0
 module _ (s : Space) (a y b z : ℕ) where

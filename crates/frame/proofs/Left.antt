@@ -1,23 +1,15 @@
 -- What a draw of frames leaves: the range left stands for the frames without those drawn, counted from the end they are drawn from.
 use Prim.Native.Nat.{ℕ, _+_}
 use mathlib.Core.Path.{_≡_}
-use mathlib.Core.List.{List, reverse}
+use mathlib.Core.List.{reverse}
 use native.Mathlib.Omega.{arith}
 use lib.ListN.{drop}
-use Rattle.laws.specs.Run.{below, through}
 use Rattle.laws.proofs.Left.{front-below-left, back-below-left, front-through-left, back-through-left}
 use Rattle.frame.specs.Frame.{start, bytes}
-use Rattle.frame.specs.Range.{topFrame, nthOf, nthBackOf, nthInclusiveOf, nthBackInclusiveOf}
+use Rattle.frame.specs.Range.{topFrame, nthOf, nthBackOf, nthInclusiveOf, nthBackInclusiveOf, framesOf, framesInclusiveOf}
 use Rattle.frame.specs.declared.range.PhysFrameRange.{PhysFrameRange}
 use Rattle.frame.specs.declared.range_inclusive.PhysFrameRangeInclusive.{PhysFrameRangeInclusive}
 use Rattle.frame.proofs.Ranges.{refusal, accepted, nth-settled, nth-back-settled, nth-inclusive-settled, nth-back-inclusive-settled}
-
--- where the frames of a range start
-abbrev pub framesOf : PhysFrameRange → List ℕ
-framesOf r = below (start (r .start)) (start (r .end)) (bytes (r .start))
-
-abbrev pub framesInclusiveOf : PhysFrameRangeInclusive → List ℕ
-framesInclusiveOf r = through (start (r .start)) (start (r .end)) (bytes (r .start))
 
 module _ (r : PhysFrameRange) (n : ℕ) (e : refusal (r .start) (r .end) ≡ 0) where
   pub nth-left : framesOf (nthOf r n .range) ≡ drop (n + 1) (framesOf r)

@@ -15,7 +15,7 @@ use Rattle.table.proofs.Sizes.{bounds}
 use Rattle.addr.specs.Address.{phys}
 use Rattle.addr.specs.Item.{itemRefusal, itemsRefusal, firstRefusal}
 use Rattle.addr.specs.Range.{refusedOr}
-use Rattle.addr.proofs.Item.{phys-argument, item-passed, items-passed}
+use Rattle.addr.proofs.Item.{phys-argument, item-passed, items-passed, first-refused, refused-or}
 use Rattle.frame.specs.Frame.{start, bytes}
 use Rattle.frame.specs.Range.{frameAt, frameAnswer, topFrame, leaves, drawnBelow, drawnThrough, nthOf, nthBackOf, nthInclusiveOf, nthBackInclusiveOf}
 use Rattle.frame.specs.declared.frame.FrameAnswer.the-variants as frame
@@ -28,14 +28,6 @@ use Rattle.frame.specs.declared.range_inclusive.FrameDrawInclusive.{Fram
 -- the number that refuses two frames
 abbrev pub refusal : PhysFrame → PhysFrame → ℕ
 refusal x y = itemsRefusal (phys 52) (start x) (bytes x) (start y) (bytes y)
-
-first-is : (k m : ℕ) → (k ≡ 0 → ⊥) → firstRefusal k m ≡ k
-first-is zero m h = absurd (h refl)
-first-is (suc k) m h = refl
-
-refused-is : {A : Type 0} (k : ℕ) (f : ℕ → A) (d : A) → (k ≡ 0 → ⊥) → refusedOr k f d ≡ f k
-refused-is zero f d h = absurd (h refl)
-refused-is (suc k) f d h = refl
 
 -- what an accepted range is: both ends of one size, each with room for one more frame
 pub record Accepted (x y : PhysFrame) : Type 0 where
@@ -72,7 +64,7 @@ module _ (r : PhysFrameRange) (d : draw.Draw) where
   settled = record { answer = frameAnswer (r .start .size) (d .item); range = record { start = frameAt (r .start .size) (d .start); end = frameAt (r .end .size) (d .end) } }
 
   pub refused-below : (refusal (r .start) (r .end) ≡ 0 → ⊥) → record { answer = frame.Refused (refusal (r .start) (r .end)); range = r } ≡ drawnBelow r d
-  refused-below n = rw (first-is (refusal (r .start) (r .end)) (leaves d) n) (sym (refused-is (refusal (r .start) (r .end)) _ _ n))
+  refused-below n = rw (first-refused (refusal (r .start) (r .end)) (leaves d) n) (sym (refused-or (refusal (r .start) (r .end)) _ _ n))
 
   pub settled-below : refusal (r .start) (r .end) ≡ 0 → d .start < 2 ^ 52 → d .end < 2 ^ 52 → settled ≡ drawnBelow r d
   settled-below e h k = simp (e, lt-ltb (d .start) (2 ^ 52) h, lt-ltb (d .end) (2 ^ 52) k)
@@ -82,7 +74,7 @@ module _ (r : PhysFrameRangeInclusive) (d : draw.Draw) where
   settledInclusive = record { answer = frameAnswer (r .start .size) (d .item); range = record { start = frameAt (r .start .size) (d .start); end = frameAt (r .end .size) (d .end) } }
 
   pub refused-through : (refusal (r .start) (r .end) ≡ 0 → ⊥) → record { answer = frame.Refused (refusal (r .start) (r .end)); range = r } ≡ drawnThrough r d
-  refused-through n = rw (first-is (refusal (r .start) (r .end)) (leaves d) n) (sym (refused-is (refusal (r .start) (r .end)) _ _ n))
+  refused-through n = rw (first-refused (refusal (r .start) (r .end)) (leaves d) n) (sym (refused-or (refusal (r .start) (r .end)) _ _ n))
 
   pub settled-through : refusal (r .start) (r .end) ≡ 0 → d .start < 2 ^ 52 → d .end < 2 ^ 52 → settledInclusive ≡ drawnThrough r d
   settled-through e h k = simp (e, lt-ltb (d .start) (2 ^ 52) h, lt-ltb (d .end) (2 ^ 52) k)

@@ -2,12 +2,14 @@
 -- The sentences are those of document 01, "Ranges".
 use Prim.Native.Nat.{ℕ, _-_, _^_}
 use mathlib.Core.Bool.{cond, false}
+use mathlib.Core.List.{List}
 use mathlib.Core.Option.{Option, none, some}
 use lib.Dec.{ltb}
 use Rattle.answer.specs.Outcome.{Outcome, gives, refuses}
 use Rattle.answer.specs.Refusal.{drawLeavesMemory}
 use Rattle.laws.specs.Run.{below, through}
 use Rattle.laws.specs.Draw as draw
+use Rattle.laws.specs.Drawing.{Side, front, back, Drawn}
 use Rattle.table.specs.declared.size.PageSize.{PageSize}
 use Rattle.addr.specs.Address.{phys}
 use Rattle.addr.specs.Item.{item, firstRefusal, itemsRefusal}
@@ -92,3 +94,25 @@ nthBackInclusiveOf r n =
     let b = start (r .end) in
     let z = bytes (r .start) in
     drawnThrough r (draw.backThrough (through a b z) a b z n)
+
+-- where the frames of a range start
+abbrev pub framesOf : PhysFrameRange → List ℕ
+framesOf r = below (start (r .start)) (start (r .end)) (bytes (r .start))
+
+abbrev pub framesInclusiveOf : PhysFrameRangeInclusive → List ℕ
+framesInclusiveOf r = through (start (r .start)) (start (r .end)) (bytes (r .start))
+
+-- a draw as what it gives and the range left, `s`; none where it is refused
+abbrev pub given : {S : Type 0} → FrameAnswer → S → Option (Drawn S)
+given (frame.Refused k) s = none
+given frame.None s = some (record { item = none; left = s })
+given (frame.Frame f) s = some (record { item = some (start f); left = s })
+
+-- `next` and `next_back`
+abbrev pub drawFrom : Side → PhysFrameRange → Option (Drawn PhysFrameRange)
+drawFrom front r = given (nthOf r 0 .answer) (nthOf r 0 .range)
+drawFrom back r = given (nthBackOf r 0 .answer) (nthBackOf r 0 .range)
+
+abbrev pub drawInclusiveFrom : Side → PhysFrameRangeInclusive → Option (Drawn PhysFrameRangeInclusive)
+drawInclusiveFrom front r = given (nthInclusiveOf r 0 .answer) (nthInclusiveOf r 0 .range)
+drawInclusiveFrom back r = given (nthBackInclusiveOf r 0 .answer) (nthBackInclusiveOf r 0 .range)

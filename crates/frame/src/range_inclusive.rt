@@ -92,13 +92,7 @@ pub fn draw_nth_back_inclusive(range: PhysFrameRangeInclusive, n: u64) -> FrameD
         };
     }
     let size = start.size;
-    let d = back_through(
-        start.start_address.0,
-        end.start_address.0,
-        size,
-        SIZE - size.bytes(),
-        n,
-    );
+    let d = back_through(start.start_address.0, end.start_address.0, size, n);
     let item = d.item;
     let end_size = end.size;
     FrameDrawInclusive {

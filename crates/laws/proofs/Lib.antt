@@ -10,3 +10,4 @@ pub mod Draw
 pub mod Gap
 pub mod Left
 pub mod PagesLeft
+pub mod Drawing

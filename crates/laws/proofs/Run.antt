@@ -5,13 +5,14 @@ use mathlib.Core.Bool.{cond}
 use mathlib.Core.List.{List, [], _∷_, _++_, reverse, reverse-append}
 use mathlib.Core.Option.{Option, none, some}
 use native.Mathlib.Omega.{arith}
-use native.Mathlib.Decide.{decLe}
-use native.Mathlib.Nat.{zero-mul, suc-mul, min-le-right, suc-min-suc, zero-min, suc-sub-suc, sub-zero, zero-sub, add-zero, add-assoc, add-comm, div-mul-le-self, sub-eq-zero-of-le, le-of-lt, div-eq-of-lt, zero-div, div-eq-sub-div, sub-add-eq, mul-le-mul-right, add-div-right, le-trans, le-of-eq, mul-le-mul-left}
+use native.Mathlib.Decide.{decLe, decLt}
+use native.Mathlib.Nat.{zero-mul, suc-mul, min-le-right, suc-min-suc, zero-min, suc-sub-suc, sub-zero, zero-sub, add-zero, add-assoc, add-comm, div-mul-le-self, sub-eq-zero-of-le, le-of-lt, div-eq-of-lt, zero-div, div-eq-sub-div, sub-add-eq, mul-le-mul-right, add-div-right, le-trans, le-of-eq, mul-le-mul-left, div-lt-iff-lt-mul}
 use borrow.Author.Tests.{lt-ltb, le-ltb}
 use lib.Dec.{ltb, leb·zero, leb·suc-zero, leb·suc-suc}
 use lib.ListN.{length, getElem?, drop}
 use lib.Seq.{drop-nil}
 use Rattle.laws.specs.Run.{run, lenBelow, lenThrough, below, through}
+use Rattle.laws.proofs.Cases.{by-cases}
 
 pub run-length : (a s k : ℕ) → length (run a s k) ≡ k
 unfolding run
@@ -80,6 +81,10 @@ pub fits-below : (a b s : ℕ) → a + lenBelow a b s * s ≤ max a b
 unfolding lenBelow
 fits-below a b s = omega (arith, div-mul-le-self (b - a) s)
 
+-- the last of them
+pub last-below : (a b s : ℕ) → a + (lenBelow a b s - 1) * s ≤ max a b
+last-below a b s = omega (arith, fits-below a b s, mul-le-mul-right {m = lenBelow a b s - 1} {n = lenBelow a b s} s (omega arith))
+
 -- of k items a draw takes j
 pub taken-below : (a b s n k j : ℕ) → k ≡ lenBelow a b s → j ≡ min (n + 1) k → a + j * s ≤ max a b
 taken-below a b s n k j e f = omega (arith, mul-le-mul-right s (le-trans (le-of-eq f) (min-le-right (n + 1) k)), ap (λ (x : ℕ). x * s) e, fits-below a b s)
@@ -96,12 +101,27 @@ through-is a b s p = go (decLe a b)
 pub fits-through : (a b s : ℕ) → 0 < s → a + lenThrough a b s * s ≤ max a (b + s)
 fits-through a b s p = rw (through-is a b s p) (fits-below a (b + s) s)
 
+pub last-through : (a b s : ℕ) → a + (lenThrough a b s - 1) * s ≤ max a b
+unfolding lenThrough
+last-through a b s = go (decLe a b)
+  where
+    go : Dec (a ≤ b) → a + (cond (ltb b a) 0 ((b - a) / s + 1) - 1) * s ≤ max a b
+    go (yes h) = let e : (b - a) / s + 1 - 1 ≡ (b - a) / s = omega arith in rw (le-ltb b a h, e) (omega (arith, div-mul-le-self (b - a) s))
+    go (no h) = rw (lt-ltb b a (omega arith)) (omega (arith, zero-mul s))
+
+-- n steps on from a are past top, by how many steps fit up to it
+pub past-top : (a s n top : ℕ) → 0 < s → a ≤ top → ltb ((top - a) / s) n ≡ ltb top (a + n * s)
+past-top a s n top p h =
+    by-cases (decLt (top - a) (n * s))
+    (λ k. lt-ltb ((top - a) / s) n (div-lt-iff-lt-mul {k = s} {x = top - a} {y = n} p .1 k) ∙ sym (lt-ltb top (a + n * s) (omega arith)))
+    (λ k. le-ltb ((top - a) / s) n (not-lt (λ m. k (div-lt-iff-lt-mul {k = s} {x = top - a} {y = n} p .0 m))) ∙ sym (le-ltb top (a + n * s) (omega arith)))
+  where
+    not-lt : {x y : ℕ} → (x < y → ⊥) → y ≤ x
+    not-lt m = omega arith
+
 -- a step above 1 goes at most half as often
 pub half : (x s : ℕ) → 1 < s → x / s * 2 ≤ x
 half x s h = le-trans (mul-le-mul-left (x / s) h) (div-mul-le-self x s)
-
-pub taken-through : (a b s n k j : ℕ) → 0 < s → k ≡ lenThrough a b s → j ≡ min (n + 1) k → a + j * s ≤ max a (b + s)
-taken-through a b s n k j p e f = taken-below a (b + s) s n k j (e ∙ through-is a b s p) f
 
 -- the last of j items taken, and the one after it
 pub after-last : (j s : ℕ) → (j ≡ 0 → ⊥) → (j - 1) * s + s ≡ j * s

@@ -5,3 +5,4 @@ pub mod Index
 pub mod Number
 pub mod Run
 pub mod Draw
+pub mod Drawing

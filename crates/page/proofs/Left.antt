@@ -6,7 +6,7 @@ use mathlib.Core.List.{List, reverse}
 use native.Mathlib.Omega.{arith}
 use lib.ListN.{drop}
 use Rattle.laws.specs.Width.{half, firstHigh}
-use Rattle.laws.specs.Run.{through, pagesBelow, pagesThrough}
+use Rattle.laws.specs.Run.{through}
 use Rattle.laws.specs.Draw.{gapFrontBelow, gapFrontThrough, gapBackBelow, gapBackThrough}
 use Rattle.laws.proofs.Width.{sizes}
 use Rattle.laws.proofs.PagesLeft.{pages-front-left, pages-back-left, pages-front-through-left, pages-back-through-left}
@@ -14,17 +14,10 @@ use Rattle.addr.specs.Widths.{widthOf}
 use Rattle.addr.specs.declared.width.Width.{Width}
 use Rattle.addr.proofs.Widths.{widths}
 use Rattle.page.specs.Page.{start, bytes}
-use Rattle.page.specs.Range.{topPage, refusal, nthOf, nthBackOf, nthInclusiveOf, nthBackInclusiveOf}
+use Rattle.page.specs.Range.{topPage, refusal, nthOf, nthBackOf, nthInclusiveOf, nthBackInclusiveOf, pagesOf, pagesInclusiveOf}
 use Rattle.page.specs.declared.range.PageRange.{PageRange}
 use Rattle.page.specs.declared.range_inclusive.PageRangeInclusive.{PageRangeInclusive}
 use Rattle.page.proofs.Ranges.{accepted, room-of, nth-settled, nth-back-settled, nth-inclusive-settled, nth-back-inclusive-settled}
-
--- where the pages of a range start
-abbrev pub pagesOf : ℕ → PageRange → List ℕ
-pagesOf w r = pagesBelow w (start (r .start)) (start (r .end)) (bytes (r .start))
-
-abbrev pub pagesInclusiveOf : ℕ → PageRangeInclusive → List ℕ
-pagesInclusiveOf w r = pagesThrough w (start (r .start)) (start (r .end)) (bytes (r .start))
 
 module _ (v : Width) (r : PageRange) (n : ℕ) (e : refusal (widthOf v) (r .start) (r .end) ≡ 0) where
   pub nth-left : gapFrontBelow (widthOf v) (start (r .start)) (start (r .end)) (bytes (r .start)) n ≡ false → pagesOf (widthOf v) (nthOf (widthOf v) r n .range) ≡ drop (n + 1) (pagesOf (widthOf v) r)

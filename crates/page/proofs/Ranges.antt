@@ -3,6 +3,7 @@
 use Prim.Native.Nat.{ℕ, zero, suc, _+_, _-_, _*_, _/_, _%_, _^_, _≤_, _<_}
 use mathlib.Core.Path.{_≡_, refl, sym, ap, _∙_}
 use mathlib.Core.Bool.{Bool, true, false, cond}
+use mathlib.Core.List.{List}
 use native.Mathlib.Omega.{arith}
 use native.Mathlib.Decide.{ℕ-discrete}
 use native.Mathlib.Nat.{zero-mul, add-mul}
@@ -27,7 +28,7 @@ use Rattle.addr.specs.Item.{itemsRefusal, firstRefusal}
 use Rattle.addr.specs.Range.{refusedOr}
 use Rattle.addr.specs.declared.width.Width.{Width}
 use Rattle.addr.specs.declared.width.Width.the-variants.{Bits48, Bits57}
-use Rattle.addr.proofs.Item.{virt-argument, item-passed, items-passed}
+use Rattle.addr.proofs.Item.{virt-argument, item-passed, items-passed, first-refused, refused-or}
 use Rattle.addr.proofs.Widths.{widths}
 use Rattle.page.specs.Page.{start, bytes}
 use Rattle.page.specs.Range.{pageAtSize, pageAnswer, topPage, refusal, drawnBelow, drawnThrough, nthOf, nthBackOf, nthInclusiveOf, nthBackInclusiveOf}
@@ -37,14 +38,6 @@ use Rattle.page.specs.declared.range.PageRange.{PageRange}
 use Rattle.page.specs.declared.range.PageDraw.{PageDraw}
 use Rattle.page.specs.declared.range_inclusive.PageRangeInclusive.{PageRangeInclusive}
 use Rattle.page.specs.declared.range_inclusive.PageDrawInclusive.{PageDrawInclusive}
-
-first-is : (k m : ℕ) → (k ≡ 0 → ⊥) → firstRefusal k m ≡ k
-first-is zero m h = absurd (h refl)
-first-is (suc k) m h = refl
-
-refused-is : {A : Type 0} (k : ℕ) (f : ℕ → A) (d : A) → (k ≡ 0 → ⊥) → refusedOr k f d ≡ f k
-refused-is zero f d h = absurd (h refl)
-refused-is (suc k) f d h = refl
 
 -- either width is more than the largest size
 wide : (v : Width) → 47 < widthOf v
@@ -92,7 +85,7 @@ module _ (w : ℕ) (r : PageRange) (gap : Bool) (d : draw.Draw) where
   settled = record { answer = pageAnswer (r .start .size) (d .item); range = record { start = pageAtSize (r .start .size) (d .start); end = pageAtSize (r .end .size) (d .end) } }
 
   refused-below : (refusal w (r .start) (r .end) ≡ 0 → ⊥) → record { answer = page.Refused (refusal w (r .start) (r .end)); range = r } ≡ drawnBelow w r gap d
-  refused-below n = rw (first-is (refusal w (r .start) (r .end)) _ n) (sym (refused-is (refusal w (r .start) (r .end)) _ _ n))
+  refused-below n = rw (first-refused (refusal w (r .start) (r .end)) _ n) (sym (refused-or (refusal w (r .start) (r .end)) _ _ n))
 
   gap-below : refusal w (r .start) (r .end) ≡ 0 → gap ≡ true → record { answer = page.Refused 10; range = r } ≡ drawnBelow w r gap d
   gap-below e g = simp (e, g)
@@ -101,35 +94,55 @@ module _ (w : ℕ) (r : PageRange) (gap : Bool) (d : draw.Draw) where
   settled-below e g = simp (e, g)
 
 module _ (v : Width) (r : PageRange) (n : ℕ) where
+  abbrev frontGap : Bool
+  frontGap = draw.gapFrontBelow (widthOf v) (start (r .start)) (start (r .end)) (bytes (r .start)) n
+
+  abbrev front : (List ℕ) → draw.Draw
+  front l = draw.frontBelow l (start (r .start)) (start (r .end)) (bytes (r .start)) n
+
+  abbrev frontPages : draw.Draw
+  frontPages = front (pagesBelow (widthOf v) (start (r .start)) (start (r .end)) (bytes (r .start)))
+
   pub nth-refused : (refusal (widthOf v) (r .start) (r .end) ≡ 0 → ⊥) → record { answer = page.Refused (refusal (widthOf v) (r .start) (r .end)); range = r } ≡ nthOf (widthOf v) r n
   unfolding nthOf
-  nth-refused h = refused-below (widthOf v) r (draw.gapFrontBelow (widthOf v) (start (r .start)) (start (r .end)) (bytes (r .start)) n) (draw.frontBelow (pagesBelow (widthOf v) (start (r .start)) (start (r .end)) (bytes (r .start))) (start (r .start)) (start (r .end)) (bytes (r .start)) n) h
+  nth-refused h = refused-below (widthOf v) r frontGap frontPages h
 
-  pub nth-gap : refusal (widthOf v) (r .start) (r .end) ≡ 0 → draw.gapFrontBelow (widthOf v) (start (r .start)) (start (r .end)) (bytes (r .start)) n ≡ true → record { answer = page.Refused 10; range = r } ≡ nthOf (widthOf v) r n
+  pub nth-gap : refusal (widthOf v) (r .start) (r .end) ≡ 0 → frontGap ≡ true → record { answer = page.Refused 10; range = r } ≡ nthOf (widthOf v) r n
   unfolding nthOf
-  nth-gap e g = gap-below (widthOf v) r (draw.gapFrontBelow (widthOf v) (start (r .start)) (start (r .end)) (bytes (r .start)) n) (draw.frontBelow (pagesBelow (widthOf v) (start (r .start)) (start (r .end)) (bytes (r .start))) (start (r .start)) (start (r .end)) (bytes (r .start)) n) e g
+  nth-gap e g = gap-below (widthOf v) r frontGap frontPages e g
 
-  pub nth-settled : refusal (widthOf v) (r .start) (r .end) ≡ 0 → draw.gapFrontBelow (widthOf v) (start (r .start)) (start (r .end)) (bytes (r .start)) n ≡ false → settled (widthOf v) r false (draw.frontBelow (below (start (r .start)) (start (r .end)) (bytes (r .start))) (start (r .start)) (start (r .end)) (bytes (r .start)) n) ≡ nthOf (widthOf v) r n
+  -- by the pages of the range, and by its numbers alone
+  pub nth-given : refusal (widthOf v) (r .start) (r .end) ≡ 0 → frontGap ≡ false → settled (widthOf v) r false frontPages ≡ nthOf (widthOf v) r n
   unfolding nthOf
-  nth-settled e g =
-      let x = accepted v (r .start) (r .end) e in
-      let l = front-below (widthOf v) (bytes (r .start)) (start (r .start)) (start (r .end)) (x .ends) n g in
-      rw (← l) (settled-below (widthOf v) r (draw.gapFrontBelow (widthOf v) (start (r .start)) (start (r .end)) (bytes (r .start)) n) (draw.frontBelow (pagesBelow (widthOf v) (start (r .start)) (start (r .end)) (bytes (r .start))) (start (r .start)) (start (r .end)) (bytes (r .start)) n) e g)
+  nth-given e g = settled-below (widthOf v) r frontGap frontPages e g
+
+  pub nth-settled : refusal (widthOf v) (r .start) (r .end) ≡ 0 → frontGap ≡ false → settled (widthOf v) r false (front (below (start (r .start)) (start (r .end)) (bytes (r .start)))) ≡ nthOf (widthOf v) r n
+  nth-settled e g = rw (← front-below (widthOf v) (bytes (r .start)) (start (r .start)) (start (r .end)) (accepted v (r .start) (r .end) e .ends) n g) (nth-given e g)
+
+  abbrev backGap : Bool
+  backGap = draw.gapBackBelow (widthOf v) (start (r .start)) (start (r .end)) (bytes (r .start)) n
+
+  abbrev back : (List ℕ) → draw.Draw
+  back l = draw.backBelow l (start (r .start)) (start (r .end)) (bytes (r .start)) n
+
+  abbrev backPages : draw.Draw
+  backPages = back (pagesBelow (widthOf v) (start (r .start)) (start (r .end)) (bytes (r .start)))
 
   pub nth-back-refused : (refusal (widthOf v) (r .start) (r .end) ≡ 0 → ⊥) → record { answer = page.Refused (refusal (widthOf v) (r .start) (r .end)); range = r } ≡ nthBackOf (widthOf v) r n
   unfolding nthBackOf
-  nth-back-refused h = refused-below (widthOf v) r (draw.gapBackBelow (widthOf v) (start (r .start)) (start (r .end)) (bytes (r .start)) n) (draw.backBelow (pagesBelow (widthOf v) (start (r .start)) (start (r .end)) (bytes (r .start))) (start (r .start)) (start (r .end)) (bytes (r .start)) n) h
+  nth-back-refused h = refused-below (widthOf v) r backGap backPages h
 
-  pub nth-back-gap : refusal (widthOf v) (r .start) (r .end) ≡ 0 → draw.gapBackBelow (widthOf v) (start (r .start)) (start (r .end)) (bytes (r .start)) n ≡ true → record { answer = page.Refused 10; range = r } ≡ nthBackOf (widthOf v) r n
+  pub nth-back-gap : refusal (widthOf v) (r .start) (r .end) ≡ 0 → backGap ≡ true → record { answer = page.Refused 10; range = r } ≡ nthBackOf (widthOf v) r n
   unfolding nthBackOf
-  nth-back-gap e g = gap-below (widthOf v) r (draw.gapBackBelow (widthOf v) (start (r .start)) (start (r .end)) (bytes (r .start)) n) (draw.backBelow (pagesBelow (widthOf v) (start (r .start)) (start (r .end)) (bytes (r .start))) (start (r .start)) (start (r .end)) (bytes (r .start)) n) e g
+  nth-back-gap e g = gap-below (widthOf v) r backGap backPages e g
 
-  pub nth-back-settled : refusal (widthOf v) (r .start) (r .end) ≡ 0 → draw.gapBackBelow (widthOf v) (start (r .start)) (start (r .end)) (bytes (r .start)) n ≡ false → settled (widthOf v) r false (draw.backBelow (below (start (r .start)) (start (r .end)) (bytes (r .start))) (start (r .start)) (start (r .end)) (bytes (r .start)) n) ≡ nthBackOf (widthOf v) r n
+  -- by the pages of the range, and by its numbers alone
+  pub nth-back-given : refusal (widthOf v) (r .start) (r .end) ≡ 0 → backGap ≡ false → settled (widthOf v) r false backPages ≡ nthBackOf (widthOf v) r n
   unfolding nthBackOf
-  nth-back-settled e g =
-      let x = accepted v (r .start) (r .end) e in
-      let l = back-below (widthOf v) (bytes (r .start)) (start (r .start)) (start (r .end)) (x .ends) n g in
-      rw (← l) (settled-below (widthOf v) r (draw.gapBackBelow (widthOf v) (start (r .start)) (start (r .end)) (bytes (r .start)) n) (draw.backBelow (pagesBelow (widthOf v) (start (r .start)) (start (r .end)) (bytes (r .start))) (start (r .start)) (start (r .end)) (bytes (r .start)) n) e g)
+  nth-back-given e g = settled-below (widthOf v) r backGap backPages e g
+
+  pub nth-back-settled : refusal (widthOf v) (r .start) (r .end) ≡ 0 → backGap ≡ false → settled (widthOf v) r false (back (below (start (r .start)) (start (r .end)) (bytes (r .start)))) ≡ nthBackOf (widthOf v) r n
+  nth-back-settled e g = rw (← back-below (widthOf v) (bytes (r .start)) (start (r .start)) (start (r .end)) (accepted v (r .start) (r .end) e .ends) n g) (nth-back-given e g)
 
 module _ (w : ℕ) (r : PageRangeInclusive) (gap : Bool) (d : draw.Draw) where
   -- the draw's answer and the range left
@@ -137,7 +150,7 @@ module _ (w : ℕ) (r : PageRangeInclusive) (gap : Bool) (d : draw.Draw) where
   settledInclusive = record { answer = pageAnswer (r .start .size) (d .item); range = record { start = pageAtSize (r .start .size) (d .start); end = pageAtSize (r .end .size) (d .end) } }
 
   refused-through : (refusal w (r .start) (r .end) ≡ 0 → ⊥) → record { answer = page.Refused (refusal w (r .start) (r .end)); range = r } ≡ drawnThrough w r gap d
-  refused-through n = rw (first-is (refusal w (r .start) (r .end)) _ n) (sym (refused-is (refusal w (r .start) (r .end)) _ _ n))
+  refused-through n = rw (first-refused (refusal w (r .start) (r .end)) _ n) (sym (refused-or (refusal w (r .start) (r .end)) _ _ n))
 
   gap-through : refusal w (r .start) (r .end) ≡ 0 → gap ≡ true → record { answer = page.Refused 10; range = r } ≡ drawnThrough w r gap d
   gap-through e g = simp (e, g)
@@ -146,35 +159,55 @@ module _ (w : ℕ) (r : PageRangeInclusive) (gap : Bool) (d : draw.Draw) where
   settled-through e g = simp (e, g)
 
 module _ (v : Width) (r : PageRangeInclusive) (n : ℕ) where
+  abbrev frontInclusiveGap : Bool
+  frontInclusiveGap = draw.gapFrontThrough (widthOf v) (start (r .start)) (start (r .end)) (bytes (r .start)) n
+
+  abbrev frontInclusive : (List ℕ) → draw.Draw
+  frontInclusive l = draw.frontThrough l (topPage (bytes (r .start))) (start (r .start)) (start (r .end)) (bytes (r .start)) n
+
+  abbrev frontInclusivePages : draw.Draw
+  frontInclusivePages = frontInclusive (pagesThrough (widthOf v) (start (r .start)) (start (r .end)) (bytes (r .start)))
+
   pub nth-inclusive-refused : (refusal (widthOf v) (r .start) (r .end) ≡ 0 → ⊥) → record { answer = page.Refused (refusal (widthOf v) (r .start) (r .end)); range = r } ≡ nthInclusiveOf (widthOf v) r n
   unfolding nthInclusiveOf
-  nth-inclusive-refused h = refused-through (widthOf v) r (draw.gapFrontThrough (widthOf v) (start (r .start)) (start (r .end)) (bytes (r .start)) n) (draw.frontThrough (pagesThrough (widthOf v) (start (r .start)) (start (r .end)) (bytes (r .start))) (topPage (bytes (r .start))) (start (r .start)) (start (r .end)) (bytes (r .start)) n) h
+  nth-inclusive-refused h = refused-through (widthOf v) r frontInclusiveGap frontInclusivePages h
 
-  pub nth-inclusive-gap : refusal (widthOf v) (r .start) (r .end) ≡ 0 → draw.gapFrontThrough (widthOf v) (start (r .start)) (start (r .end)) (bytes (r .start)) n ≡ true → record { answer = page.Refused 10; range = r } ≡ nthInclusiveOf (widthOf v) r n
+  pub nth-inclusive-gap : refusal (widthOf v) (r .start) (r .end) ≡ 0 → frontInclusiveGap ≡ true → record { answer = page.Refused 10; range = r } ≡ nthInclusiveOf (widthOf v) r n
   unfolding nthInclusiveOf
-  nth-inclusive-gap e g = gap-through (widthOf v) r (draw.gapFrontThrough (widthOf v) (start (r .start)) (start (r .end)) (bytes (r .start)) n) (draw.frontThrough (pagesThrough (widthOf v) (start (r .start)) (start (r .end)) (bytes (r .start))) (topPage (bytes (r .start))) (start (r .start)) (start (r .end)) (bytes (r .start)) n) e g
+  nth-inclusive-gap e g = gap-through (widthOf v) r frontInclusiveGap frontInclusivePages e g
 
-  pub nth-inclusive-settled : refusal (widthOf v) (r .start) (r .end) ≡ 0 → draw.gapFrontThrough (widthOf v) (start (r .start)) (start (r .end)) (bytes (r .start)) n ≡ false → settledInclusive (widthOf v) r false (draw.frontThrough (through (start (r .start)) (start (r .end)) (bytes (r .start))) (topPage (bytes (r .start))) (start (r .start)) (start (r .end)) (bytes (r .start)) n) ≡ nthInclusiveOf (widthOf v) r n
+  -- by the pages of the range, and by its numbers alone
+  pub nth-inclusive-given : refusal (widthOf v) (r .start) (r .end) ≡ 0 → frontInclusiveGap ≡ false → settledInclusive (widthOf v) r false frontInclusivePages ≡ nthInclusiveOf (widthOf v) r n
   unfolding nthInclusiveOf
-  nth-inclusive-settled e g =
-      let x = accepted v (r .start) (r .end) e in
-      let l = front-through (widthOf v) (bytes (r .start)) (start (r .start)) (start (r .end)) (x .ends) n g in
-      rw (← l) (settled-through (widthOf v) r (draw.gapFrontThrough (widthOf v) (start (r .start)) (start (r .end)) (bytes (r .start)) n) (draw.frontThrough (pagesThrough (widthOf v) (start (r .start)) (start (r .end)) (bytes (r .start))) (topPage (bytes (r .start))) (start (r .start)) (start (r .end)) (bytes (r .start)) n) e g)
+  nth-inclusive-given e g = settled-through (widthOf v) r frontInclusiveGap frontInclusivePages e g
+
+  pub nth-inclusive-settled : refusal (widthOf v) (r .start) (r .end) ≡ 0 → frontInclusiveGap ≡ false → settledInclusive (widthOf v) r false (frontInclusive (through (start (r .start)) (start (r .end)) (bytes (r .start)))) ≡ nthInclusiveOf (widthOf v) r n
+  nth-inclusive-settled e g = rw (← front-through (widthOf v) (bytes (r .start)) (start (r .start)) (start (r .end)) (accepted v (r .start) (r .end) e .ends) n g) (nth-inclusive-given e g)
+
+  abbrev backInclusiveGap : Bool
+  backInclusiveGap = draw.gapBackThrough (widthOf v) (start (r .start)) (start (r .end)) (bytes (r .start)) n
+
+  abbrev backInclusive : (List ℕ) → draw.Draw
+  backInclusive l = draw.backThrough l (start (r .start)) (start (r .end)) (bytes (r .start)) n
+
+  abbrev backInclusivePages : draw.Draw
+  backInclusivePages = backInclusive (pagesThrough (widthOf v) (start (r .start)) (start (r .end)) (bytes (r .start)))
 
   pub nth-back-inclusive-refused : (refusal (widthOf v) (r .start) (r .end) ≡ 0 → ⊥) → record { answer = page.Refused (refusal (widthOf v) (r .start) (r .end)); range = r } ≡ nthBackInclusiveOf (widthOf v) r n
   unfolding nthBackInclusiveOf
-  nth-back-inclusive-refused h = refused-through (widthOf v) r (draw.gapBackThrough (widthOf v) (start (r .start)) (start (r .end)) (bytes (r .start)) n) (draw.backThrough (pagesThrough (widthOf v) (start (r .start)) (start (r .end)) (bytes (r .start))) (start (r .start)) (start (r .end)) (bytes (r .start)) n) h
+  nth-back-inclusive-refused h = refused-through (widthOf v) r backInclusiveGap backInclusivePages h
 
-  pub nth-back-inclusive-gap : refusal (widthOf v) (r .start) (r .end) ≡ 0 → draw.gapBackThrough (widthOf v) (start (r .start)) (start (r .end)) (bytes (r .start)) n ≡ true → record { answer = page.Refused 10; range = r } ≡ nthBackInclusiveOf (widthOf v) r n
+  pub nth-back-inclusive-gap : refusal (widthOf v) (r .start) (r .end) ≡ 0 → backInclusiveGap ≡ true → record { answer = page.Refused 10; range = r } ≡ nthBackInclusiveOf (widthOf v) r n
   unfolding nthBackInclusiveOf
-  nth-back-inclusive-gap e g = gap-through (widthOf v) r (draw.gapBackThrough (widthOf v) (start (r .start)) (start (r .end)) (bytes (r .start)) n) (draw.backThrough (pagesThrough (widthOf v) (start (r .start)) (start (r .end)) (bytes (r .start))) (start (r .start)) (start (r .end)) (bytes (r .start)) n) e g
+  nth-back-inclusive-gap e g = gap-through (widthOf v) r backInclusiveGap backInclusivePages e g
 
-  pub nth-back-inclusive-settled : refusal (widthOf v) (r .start) (r .end) ≡ 0 → draw.gapBackThrough (widthOf v) (start (r .start)) (start (r .end)) (bytes (r .start)) n ≡ false → settledInclusive (widthOf v) r false (draw.backThrough (through (start (r .start)) (start (r .end)) (bytes (r .start))) (start (r .start)) (start (r .end)) (bytes (r .start)) n) ≡ nthBackInclusiveOf (widthOf v) r n
+  -- by the pages of the range, and by its numbers alone
+  pub nth-back-inclusive-given : refusal (widthOf v) (r .start) (r .end) ≡ 0 → backInclusiveGap ≡ false → settledInclusive (widthOf v) r false backInclusivePages ≡ nthBackInclusiveOf (widthOf v) r n
   unfolding nthBackInclusiveOf
-  nth-back-inclusive-settled e g =
-      let x = accepted v (r .start) (r .end) e in
-      let l = back-through (widthOf v) (bytes (r .start)) (start (r .start)) (start (r .end)) (x .ends) n g in
-      rw (← l) (settled-through (widthOf v) r (draw.gapBackThrough (widthOf v) (start (r .start)) (start (r .end)) (bytes (r .start)) n) (draw.backThrough (pagesThrough (widthOf v) (start (r .start)) (start (r .end)) (bytes (r .start))) (start (r .start)) (start (r .end)) (bytes (r .start)) n) e g)
+  nth-back-inclusive-given e g = settled-through (widthOf v) r backInclusiveGap backInclusivePages e g
+
+  pub nth-back-inclusive-settled : refusal (widthOf v) (r .start) (r .end) ≡ 0 → backInclusiveGap ≡ false → settledInclusive (widthOf v) r false (backInclusive (through (start (r .start)) (start (r .end)) (bytes (r .start)))) ≡ nthBackInclusiveOf (widthOf v) r n
+  nth-back-inclusive-settled e g = rw (← back-through (widthOf v) (bytes (r .start)) (start (r .start)) (start (r .end)) (accepted v (r .start) (r .end) e .ends) n g) (nth-back-inclusive-given e g)
 
 -- `size` of an inclusive range: none, all of the 64-bit space, and what lies between
 module _ (a b z : ℕ) (p : 0 < z) (ha : a + z ≤ 2 ^ 64) (hb : b + z ≤ 2 ^ 64) where

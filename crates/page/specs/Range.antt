@@ -2,12 +2,14 @@
 -- range taken. The sentences are those of document 01, "Ranges".
 use Prim.Native.Nat.{ℕ, _-_, _^_}
 use mathlib.Core.Bool.{Bool, cond}
+use mathlib.Core.List.{List}
 use mathlib.Core.Option.{Option, none, some}
 use lib.Dec.{eqb}
 use Rattle.answer.specs.Outcome.{Outcome, gives, refuses, unless}
 use Rattle.answer.specs.Refusal.{sizesDiffer, drawMeetsGap}
 use Rattle.laws.specs.Run.{pagesBelow, pagesThrough}
 use Rattle.laws.specs.Draw as draw
+use Rattle.laws.specs.Drawing.{Side, front, back, Drawn}
 use Rattle.table.specs.declared.size.PageSize.{PageSize}
 use Rattle.addr.specs.Address.{virt}
 use Rattle.addr.specs.Item.{item, firstRefusal, givenItems, itemsRefusal}
@@ -96,3 +98,25 @@ nthBackInclusiveOf w r n =
     let b = start (r .end) in
     let z = bytes (r .start) in
     drawnThrough w r (draw.gapBackThrough w a b z n) (draw.backThrough (pagesThrough w a b z) a b z n)
+
+-- where the pages of a range start
+abbrev pub pagesOf : ℕ → PageRange → List ℕ
+pagesOf w r = pagesBelow w (start (r .start)) (start (r .end)) (bytes (r .start))
+
+abbrev pub pagesInclusiveOf : ℕ → PageRangeInclusive → List ℕ
+pagesInclusiveOf w r = pagesThrough w (start (r .start)) (start (r .end)) (bytes (r .start))
+
+-- a draw as what it gives and the range left, `s`; none where it is refused
+abbrev pub given : {S : Type 0} → PageAnswer → S → Option (Drawn S)
+given (page.Refused k) s = none
+given page.None s = some (record { item = none; left = s })
+given (page.Page p) s = some (record { item = some (start p); left = s })
+
+-- `next` and `next_back`
+abbrev pub drawFrom : ℕ → Side → PageRange → Option (Drawn PageRange)
+drawFrom w front r = given (nthOf w r 0 .answer) (nthOf w r 0 .range)
+drawFrom w back r = given (nthBackOf w r 0 .answer) (nthBackOf w r 0 .range)
+
+abbrev pub drawInclusiveFrom : ℕ → Side → PageRangeInclusive → Option (Drawn PageRangeInclusive)
+drawInclusiveFrom w front r = given (nthInclusiveOf w r 0 .answer) (nthInclusiveOf w r 0 .range)
+drawInclusiveFrom w back r = given (nthBackInclusiveOf w r 0 .answer) (nthBackInclusiveOf w r 0 .range)

@@ -172,7 +172,9 @@ impl PageRange {
             return U64Answer::Refused(refused);
         }
         let size = start.size;
-        U64Answer::Value(len_below(start.start_address.0, end.start_address.0, size))
+        let a = start.start_address.0;
+        let b = end.start_address.0;
+        U64Answer::Value(len_below(a, b, size))
     }
 
     // How many bytes the range has.

@@ -121,7 +121,7 @@ fn draw_nth_back_inclusive_at(width: Width, range: PageRangeInclusive, n: u64) -
             range,
         };
     }
-    let d = back_through(a, b, size, u64::MAX - (size.bytes() - 1), n);
+    let d = back_through(a, b, size, n);
     let item = d.item;
     let end_size = end.size;
     PageDrawInclusive {

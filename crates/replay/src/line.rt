@@ -32,7 +32,7 @@ fn digit(byte: u8) -> u64
 }
 
 impl Line {
-    pub fn new() -> Line {
+    pub(crate) fn new() -> Line {
         Line {
             fields: [0; 16],
             count: 0,
@@ -53,7 +53,7 @@ impl Line {
     }
 
     // The number being read is complete.
-    pub fn pushed(self) -> Line {
+    pub(crate) fn pushed(self) -> Line {
         let count = self.count;
         if MOST <= count {
             return self.spoilt();
@@ -69,7 +69,7 @@ impl Line {
     }
 
     // A further byte of the line: a digit of the number being read, or the space after it.
-    pub fn taken(self, byte: u8) -> Line {
+    pub(crate) fn taken(self, byte: u8) -> Line {
         if byte == b' ' {
             return self.pushed();
         }

@@ -268,7 +268,7 @@ fn same_words(out: [u64; 8], fields: [u64; 16], place: usize, k: usize) -> bool
 }
 
 // Whether the answer that the line records is the one that the call gives.
-pub fn agrees(line: Line) -> bool {
+pub(crate) fn agrees(line: Line) -> bool {
     let fields = line.fields;
     let count = line.count;
     let n = arguments(fields[0]);

@@ -1,13 +1,16 @@
 -- `back_through` meets its contract.
-use mathlib.Core.Path.{_≡_, ap}
-use Prim.Native.Nat.{_-_, _*_, ℕ}
+use mathlib.Core.Path.{_≡_, sym, _∙_, ap}
+use mathlib.Core.Bool.{true, false}
+use Prim.Native.Nat.{ℕ, _+_, _*_}
 use native.Mathlib.Omega.{arith}
-use native.Mathlib.Nat.{zero-mul, sub-zero}
-use lib.Pow.{pow-pos}
-use borrow.Author.Tests.{lt-ltb, le-ltb}
+use native.Mathlib.Nat.{zero-add, zero-mul}
+use lib.Pow.{pow-mono}
+use borrow.Author.Tests.{ltb-true, ltb-false}
 use borrow.Author.Needs.{needs}
-use Rattle.laws.proofs.Run.{fits-through, after-last, back-within}
+use lib.Dec.{ltb}
+use Rattle.laws.proofs.Run.{last-through, back-within, after-last}
 use Rattle.table.specs.Level.{powerOf, bytesOf}
+use Rattle.table.proofs.Sizes.{bounds}
 use Rattle.draw.proofs.draw.back_through.Statement.{statement}
 use Rattle.draw.proofs.draw.back_through.Tie as tie
 
@@ -17,89 +20,70 @@ len-through-requires c κs = search needs
 item-back-requires : tie.Need-item-back-requires
 item-back-requires c κs =
     let b = c .before in
-    rw (c .len-through .ensures) (omega (arith, fits-through (b .args .start) (b .args .end) (bytesOf (b .args .size)) (pow-pos (powerOf (b .args .size)))))
+    rw (c .len-through .ensures) (omega (arith, last-through (b .args .start) (b .args .end) (bytesOf (b .args .size))))
 
 taken-of-requires : tie.Need-taken-of-requires
 taken-of-requires c κs = search needs
 
-returns : tie.Need-returns
-returns c =
-    let b = c .before .before .before .before in
-    rw (
-      ← c .before .before .before .len-through .ensures,
-      ← c .before .taken-of .ensures,
-      c .before .before .item-back .ensures,
-      c .if1 .taken,
-      zero-mul,
-      sub-zero,
-      le-ltb (b .args .end) 0 (omega arith),
-    )
+past-requires : tie.Need-past-requires
+past-requires c κs = search needs
 
 bytes-requires : tie.Need-bytes-requires
 bytes-requires c κs = search needs
 
-sub-last : tie.Need-sub-last
-sub-last c = search needs
-
-mul-last : tie.Need-mul-last
-mul-last c =
-    let b = c .before .before .before .before .before in
-    let j = c .before .before .taken-of .result in
-    let q = ap (λ (x : ℕ). (j - 1) * x) (c .bytes .ensures) in
-    omega (arith, c .bytes .ensures, back-within (b .args .start) (b .args .end) (bytesOf (b .args .size)) (b .args .n) _ _ (c .before .before .before .before .len-through .ensures) (c .before .before .taken-of .ensures) (c .before .if1 .left))
-
-sub-last-2 : tie.Need-sub-last-2
-sub-last-2 c =
-    let b = c .before .before .before .before .before in
-    let j = c .before .before .taken-of .result in
-    let q = ap (λ (x : ℕ). (j - 1) * x) (c .bytes .ensures) in
-    omega (arith, c .bytes .ensures, back-within (b .args .start) (b .args .end) (bytesOf (b .args .size)) (b .args .n) _ _ (c .before .before .before .before .len-through .ensures) (c .before .before .taken-of .ensures) (c .before .if1 .left))
-
-add-t14 : tie.Need-add-t14
-add-t14 c =
+-- the end would pass 0 only where the start is below one size
+add-t11 : tie.Need-add-t11
+add-t11 c =
     let b = c .before .before .before .before .before .before in
     let j = c .before .before .before .taken-of .result in
     let s = bytesOf (b .args .size) in
-    let z = c .before .bytes .ensures in
-    let q = ap (λ (x : ℕ). (j - 1) * x) z in
-    let e = after-last j s (c .before .before .if1 .left) in
-    let w = back-within (b .args .start) (b .args .end) (bytesOf (b .args .size)) (b .args .n) _ _ (c .before .before .before .before .before .len-through .ensures) (c .before .before .before .taken-of .ensures) (c .before .before .if1 .left) in
-    omega arith
+    let t : ltb (b .args .end) (0 + j * s) ≡ true = sym (c .before .before .past .ensures) ∙ c .before .if1 .taken in
+    let h = ltb-true (b .args .end) (0 + j * s) t in
+    let p : j ≡ 0 → ⊥ = λ e. omega (arith, ap (λ (x : ℕ). x * s) e) in
+    let w = back-within (b .args .start) (b .args .end) s (b .args .n) _ j (c .before .before .before .before .before .len-through .ensures) (c .before .before .before .taken-of .ensures) p in
+    omega (arith, c .bytes .ensures, after-last j s p, pow-mono {i = powerOf (b .args .size)} {j = 30} (omega (arith, bounds (b .args .size))))
+
+returns : tie.Need-returns
+returns c =
+    let b = c .before .before .before .before .before .before in
+    let j = c .before .before .before .taken-of .result in
+    let t : ltb (b .args .end) (j * bytesOf (b .args .size)) ≡ true = rw zero-add at (sym (c .before .before .past .ensures) ∙ c .before .if1 .taken) in
+    rw (
+      ← c .before .before .before .before .before .len-through .ensures,
+      ← c .before .before .before .taken-of .ensures,
+      c .before .before .before .before .item-back .ensures,
+      c .bytes .ensures,
+      t,
+    )
+
+bytes-requires-2 : tie.Need-bytes-requires-2
+bytes-requires-2 c κs = search needs
+
+mul-t13 : tie.Need-mul-t13
+mul-t13 c =
+    let b = c .before .before .before .before .before .before in
+    let j = c .before .before .before .taken-of .result in
+    let t : ltb (b .args .end) (j * bytesOf (b .args .size)) ≡ false = rw zero-add at (sym (c .before .before .past .ensures) ∙ c .before .if1 .left) in
+    rw (c .bytes2 .ensures) (omega (arith, ltb-false (b .args .end) (j * bytesOf (b .args .size)) t))
+
+sub-t14 : tie.Need-sub-t14
+sub-t14 c =
+    let b = c .before .before .before .before .before .before in
+    let j = c .before .before .before .taken-of .result in
+    let t : ltb (b .args .end) (j * bytesOf (b .args .size)) ≡ false = rw zero-add at (sym (c .before .before .past .ensures) ∙ c .before .if1 .left) in
+    rw (c .bytes2 .ensures) (omega (arith, ltb-false (b .args .end) (j * bytesOf (b .args .size)) t))
 
 returns-2 : tie.Need-returns-2
 returns-2 c =
     let b = c .before .before .before .before .before .before in
     let j = c .before .before .before .taken-of .result in
-    let s = bytesOf (b .args .size) in
-    let z = c .before .bytes .ensures in
-    let q = ap (λ (x : ℕ). (j - 1) * x) z in
-    let e = after-last j s (c .before .before .if1 .left) in
-    let w = back-within (b .args .start) (b .args .end) (bytesOf (b .args .size)) (b .args .n) _ _ (c .before .before .before .before .before .len-through .ensures) (c .before .before .before .taken-of .ensures) (c .before .before .if1 .left) in
+    let t : ltb (b .args .end) (j * bytesOf (b .args .size)) ≡ false = rw zero-add at (sym (c .before .before .past .ensures) ∙ c .before .if1 .left) in
     rw (
       ← c .before .before .before .before .before .len-through .ensures,
       ← c .before .before .before .taken-of .ensures,
       c .before .before .before .before .item-back .ensures,
-      z,
-      lt-ltb (b .args .end) (j * s) (omega arith),
-    )
-
-returns-3 : tie.Need-returns-3
-returns-3 c =
-    let b = c .before .before .before .before .before .before in
-    let j = c .before .before .before .taken-of .result in
-    let s = bytesOf (b .args .size) in
-    let z = c .before .bytes .ensures in
-    let q = ap (λ (x : ℕ). (j - 1) * x) z in
-    let e = after-last j s (c .before .before .if1 .left) in
-    let w = back-within (b .args .start) (b .args .end) (bytesOf (b .args .size)) (b .args .n) _ _ (c .before .before .before .before .before .len-through .ensures) (c .before .before .before .taken-of .ensures) (c .before .before .if1 .left) in
-    let g : b .args .end - (j - 1) * s - s ≡ b .args .end - j * s = omega arith in
-    rw (
-      ← c .before .before .before .before .before .len-through .ensures,
-      ← c .before .before .before .taken-of .ensures,
-      c .before .before .before .before .item-back .ensures,
-      z,
-      le-ltb (b .args .end) (j * s) (omega arith),
-      g,
+      c .bytes2 .ensures,
+      t,
     )
 
 pub back-through-spec : {M : Type 1} → statement M
@@ -109,11 +93,11 @@ back-through-spec =
     len-through-requires
     item-back-requires
     taken-of-requires
-    returns
+    past-requires
     bytes-requires
-    sub-last
-    mul-last
-    sub-last-2
-    add-t14
-    returns-2
-    returns-3)
+    add-t11
+    returns
+    bytes-requires-2
+    mul-t13
+    sub-t14
+    returns-2)

@@ -1,7 +1,7 @@
 -- `front_below` meets its contract.
 use native.Mathlib.Omega.{arith}
 use borrow.Author.Needs.{needs}
-use Rattle.laws.proofs.Run.{fits-below, taken-below}
+use Rattle.laws.proofs.Run.{last-below, taken-below}
 use Rattle.table.specs.Level.{bytesOf}
 use Rattle.draw.proofs.draw.front_below.Statement.{statement}
 use Rattle.draw.proofs.draw.front_below.Tie as tie
@@ -12,7 +12,7 @@ len-below-requires c κs = search needs
 item-at-requires : tie.Need-item-at-requires
 item-at-requires c κs =
     let b = c .before in
-    rw (c .len-below .ensures) (omega (arith, fits-below (b .args .start) (b .args .end) (bytesOf (b .args .size))))
+    rw (c .len-below .ensures) (omega (arith, last-below (b .args .start) (b .args .end) (bytesOf (b .args .size))))
 
 taken-of-requires : tie.Need-taken-of-requires
 taken-of-requires c κs = search needs

@@ -1,10 +1,11 @@
 -- `item_at` meets its contract.
+use Prim.Native.Nat.{_-_}
 use native.Mathlib.Omega.{arith}
-use lib.Pow.{pow-pos}
+use native.Mathlib.Nat.{mul-le-mul-right}
 use borrow.Author.Tests.{lt-ltb, le-ltb}
 use borrow.Author.Needs.{needs}
-use Rattle.laws.proofs.Run.{run-at, steps-fit}
-use Rattle.table.specs.Level.{powerOf, bytesOf}
+use Rattle.laws.proofs.Run.{run-at}
+use Rattle.table.specs.Level.{bytesOf}
 use Rattle.draw.proofs.draw.item_at.Statement.{statement}
 use Rattle.draw.proofs.draw.item_at.Tie as tie
 
@@ -14,12 +15,12 @@ bytes-requires c κs = search needs
 mul-t7 : tie.Need-mul-t7
 mul-t7 c =
     let b = c .before .before in
-    rw (c .bytes .ensures) (omega (arith, pow-pos (powerOf (b .args .size)), steps-fit (b .args .n) (b .args .k) (bytesOf (b .args .size)) (c .before .if1 .taken)))
+    rw (c .bytes .ensures) (omega (arith, mul-le-mul-right {m = b .args .n} {n = b .args .k - 1} (bytesOf (b .args .size)) (omega arith)))
 
 add-t8 : tie.Need-add-t8
 add-t8 c =
     let b = c .before .before in
-    rw (c .bytes .ensures) (omega (arith, pow-pos (powerOf (b .args .size)), steps-fit (b .args .n) (b .args .k) (bytesOf (b .args .size)) (c .before .if1 .taken)))
+    rw (c .bytes .ensures) (omega (arith, mul-le-mul-right {m = b .args .n} {n = b .args .k - 1} (bytesOf (b .args .size)) (omega arith)))
 
 returns : tie.Need-returns
 returns c = rw (run-at, lt-ltb _ _ (c .before .if1 .taken), c .bytes .ensures)

@@ -2,11 +2,11 @@
 use mathlib.Core.Path.{ap}
 use Prim.Native.Nat.{ℕ, _-_, _*_}
 use native.Mathlib.Omega.{arith}
-use lib.Pow.{pow-pos}
+use native.Mathlib.Nat.{mul-le-mul-right}
 use borrow.Author.Tests.{lt-ltb, le-ltb}
 use borrow.Author.Needs.{needs}
-use Rattle.laws.proofs.Run.{back-at, steps-fit}
-use Rattle.table.specs.Level.{powerOf, bytesOf}
+use Rattle.laws.proofs.Run.{back-at}
+use Rattle.table.specs.Level.{bytesOf}
 use Rattle.draw.proofs.draw.item_back.Statement.{statement}
 use Rattle.draw.proofs.draw.item_back.Tie as tie
 
@@ -23,13 +23,13 @@ mul-t9 : tie.Need-mul-t9
 mul-t9 c =
     let b = c .before .before in
     let i = b .args .k - 1 - b .args .n in
-    omega (arith, pow-pos (powerOf (b .args .size)), steps-fit i (b .args .k) (bytesOf (b .args .size)) (omega arith), ap (λ (x : ℕ). i * x) (c .bytes .ensures))
+    omega (arith, mul-le-mul-right {m = i} {n = b .args .k - 1} (bytesOf (b .args .size)) (omega arith), ap (λ (x : ℕ). i * x) (c .bytes .ensures))
 
 add-t10 : tie.Need-add-t10
 add-t10 c =
     let b = c .before .before in
     let i = b .args .k - 1 - b .args .n in
-    omega (arith, pow-pos (powerOf (b .args .size)), steps-fit i (b .args .k) (bytesOf (b .args .size)) (omega arith), ap (λ (x : ℕ). i * x) (c .bytes .ensures))
+    omega (arith, mul-le-mul-right {m = i} {n = b .args .k - 1} (bytesOf (b .args .size)) (omega arith), ap (λ (x : ℕ). i * x) (c .bytes .ensures))
 
 returns : tie.Need-returns
 returns c = rw (back-at, lt-ltb _ _ (c .before .if1 .taken), c .bytes .ensures)

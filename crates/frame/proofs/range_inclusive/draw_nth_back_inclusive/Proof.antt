@@ -1,9 +1,8 @@
 -- `draw_nth_back_inclusive` meets its contract.
 use mathlib.Core.Path.{sym, ap, _∙_}
-use native.Mathlib.Omega.{arith}
 use borrow.Author.Needs.{needs}
 use Rattle.laws.specs.Draw as draw
-use Rattle.frame.proofs.Ranges.{settledInclusive, nth-back-inclusive-refused, nth-back-inclusive-settled, accepted}
+use Rattle.frame.proofs.Ranges.{settledInclusive, nth-back-inclusive-refused, nth-back-inclusive-settled}
 use Rattle.frame.proofs.range_inclusive.draw_nth_back_inclusive.Statement.{statement}
 use Rattle.frame.proofs.range_inclusive.draw_nth_back_inclusive.Tie as tie
 
@@ -15,18 +14,8 @@ returns c =
     let e = c .before .frames-refusal .ensures in
     rw e (nth-back-inclusive-refused (c .before .before .before .before .args .range) (c .before .before .before .before .args .n) (λ z. c .if1 .taken (e ∙ z)))
 
-bytes-requires : tie.Need-bytes-requires
-bytes-requires c κs = search needs
-
-sub-back-through : tie.Need-sub-back-through
-sub-back-through c =
-    let x = accepted (c .before .before .before .before .before .args .range .start) (c .before .before .before .before .before .args .range .end) (sym (c .before .before .frames-refusal .ensures) ∙ c .before .if1 .left) in
-    omega (arith, c .bytes .ensures)
-
 back-through-requires : tie.Need-back-through-requires
-back-through-requires c κs =
-    let x = accepted (c .before .before .before .before .before .args .range .start) (c .before .before .before .before .before .args .range .end) (sym (c .before .before .frames-refusal .ensures) ∙ c .before .if1 .left) in
-    (omega (arith, c .bytes .ensures), omega (arith, c .bytes .ensures), omega (arith, c .bytes .ensures), omega (arith, c .bytes .ensures))
+back-through-requires c κs = search needs
 
 frame-answer-requires : tie.Need-frame-answer-requires
 frame-answer-requires c κs = search needs
@@ -39,12 +28,12 @@ frame-at-requires-2 c κs = search needs
 
 returns-2 : tie.Need-returns-2
 returns-2 c =
-    let r = c .before .before .before .before .before .before .before .before .before .args .range in
+    let r = c .before .before .before .before .before .before .before .before .args .range in
     rw (
       c .before .before .frame-answer .ensures,
       c .before .frame-at .ensures,
       c .frame-at2 .ensures,
-    ) (ap (λ (d : draw.Draw). settledInclusive r d) (c .before .before .before .back-through .ensures) ∙ nth-back-inclusive-settled r (c .before .before .before .before .before .before .before .before .before .args .n) (sym (c .before .before .before .before .before .before .frames-refusal .ensures) ∙ c .before .before .before .before .before .if1 .left))
+    ) (ap (λ (d : draw.Draw). settledInclusive r d) (c .before .before .before .back-through .ensures) ∙ nth-back-inclusive-settled r (c .before .before .before .before .before .before .before .before .args .n) (sym (c .before .before .before .before .before .frames-refusal .ensures) ∙ c .before .before .before .before .if1 .left))
 
 pub draw-nth-back-inclusive-spec : {M : Type 1} → statement M
 draw-nth-back-inclusive-spec =
@@ -52,8 +41,6 @@ draw-nth-back-inclusive-spec =
     (tie.spec
     frames-refusal-requires
     returns
-    bytes-requires
-    sub-back-through
     back-through-requires
     frame-answer-requires
     frame-at-requires

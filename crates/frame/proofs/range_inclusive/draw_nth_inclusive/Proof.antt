@@ -24,9 +24,7 @@ sub-front-through c =
     omega (arith, c .bytes .ensures)
 
 front-through-requires : tie.Need-front-through-requires
-front-through-requires c κs =
-    let x = accepted (c .before .before .before .before .before .args .range .start) (c .before .before .before .before .before .args .range .end) (sym (c .before .before .frames-refusal .ensures) ∙ c .before .if1 .left) in
-    (omega (arith, c .bytes .ensures), omega (arith, c .bytes .ensures), omega (arith, c .bytes .ensures), omega (arith, c .bytes .ensures))
+front-through-requires c κs = search needs
 
 frame-answer-requires : tie.Need-frame-answer-requires
 frame-answer-requires c κs = search needs

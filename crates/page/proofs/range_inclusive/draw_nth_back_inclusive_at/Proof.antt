@@ -1,12 +1,10 @@
 -- `draw_nth_back_inclusive_at` meets its contract.
 use mathlib.Core.Path.{sym, ap, _∙_}
 use mathlib.Core.Bool.{false}
-use native.Mathlib.Omega.{arith}
 use borrow.Author.Needs.{needs}
 use Rattle.laws.specs.Draw as draw
 use Rattle.addr.specs.Widths.{widthOf}
-use Rattle.page.specs.Page.{bytes}
-use Rattle.page.proofs.Ranges.{accepted, settledInclusive, nth-back-inclusive-refused, nth-back-inclusive-gap, nth-back-inclusive-settled}
+use Rattle.page.proofs.Ranges.{settledInclusive, nth-back-inclusive-refused, nth-back-inclusive-gap, nth-back-inclusive-settled}
 use Rattle.page.proofs.range_inclusive.draw_nth_back_inclusive_at.Statement.{statement}
 use Rattle.page.proofs.range_inclusive.draw_nth_back_inclusive_at.Tie as tie
 
@@ -25,23 +23,8 @@ returns-2 : tie.Need-returns-2
 returns-2 c =
     nth-back-inclusive-gap (c .before .before .before .before .before .before .args .width) (c .before .before .before .before .before .before .args .range) (c .before .before .before .before .before .before .args .n) (sym (c .before .before .before .pages-refusal .ensures) ∙ c .before .before .if1 .left) (sym (c .before .gap-back-through .ensures) ∙ c .if2 .taken)
 
-bytes-requires : tie.Need-bytes-requires
-bytes-requires c κs = search needs
-
-sub-back-through : tie.Need-sub-back-through
-sub-back-through c =
-    let r = c .before .before .before .before .before .before .before .args .range in
-    let x = accepted (c .before .before .before .before .before .before .before .args .width) (r .start) (r .end) (sym (c .before .before .before .before .pages-refusal .ensures) ∙ c .before .before .before .if1 .left) in
-    omega (arith, c .bytes .ensures, x .ends .some)
-
-sub-back-through-2 : tie.Need-sub-back-through-2
-sub-back-through-2 c = search needs
-
 back-through-requires : tie.Need-back-through-requires
-back-through-requires c κs =
-    let r = c .before .before .before .before .before .before .before .args .range in
-    let x = accepted (c .before .before .before .before .before .before .before .args .width) (r .start) (r .end) (sym (c .before .before .before .before .pages-refusal .ensures) ∙ c .before .before .before .if1 .left) in
-    (omega (arith, c .bytes .ensures, x .ends .some), omega (arith, c .bytes .ensures, x .ends .some), omega (arith, c .bytes .ensures, x .ends .some), omega (arith, c .bytes .ensures, x .ends .some))
+back-through-requires c κs = search needs
 
 page-answer-requires : tie.Need-page-answer-requires
 page-answer-requires c κs = search needs
@@ -54,15 +37,14 @@ page-at-size-requires-2 c κs = search needs
 
 returns-3 : tie.Need-returns-3
 returns-3 c =
-    let r = c .before .before .before .before .before .before .before .before .before .before .before .args .range in
-    let v = c .before .before .before .before .before .before .before .before .before .before .before .args .width in
-    let p = sym (c .before .before .before .before .before .before .before .before .pages-refusal .ensures) ∙ c .before .before .before .before .before .before .before .if1 .left in
-    let x = accepted v (r .start) (r .end) p in
+    let r = c .before .before .before .before .before .before .before .before .before .before .args .range in
+    let v = c .before .before .before .before .before .before .before .before .before .before .args .width in
+    let p = sym (c .before .before .before .before .before .before .before .pages-refusal .ensures) ∙ c .before .before .before .before .before .before .if1 .left in
     rw (
       c .before .before .page-answer .ensures,
       c .before .page-at-size .ensures,
       c .page-at-size2 .ensures,
-    ) (ap (λ (d : draw.Draw). settledInclusive (widthOf v) r false d) (c .before .before .before .back-through .ensures) ∙ nth-back-inclusive-settled v r (c .before .before .before .before .before .before .before .before .before .before .before .args .n) p (sym (c .before .before .before .before .before .before .gap-back-through .ensures) ∙ c .before .before .before .before .before .if2 .left))
+    ) (ap (λ (d : draw.Draw). settledInclusive (widthOf v) r false d) (c .before .before .before .back-through .ensures) ∙ nth-back-inclusive-settled v r (c .before .before .before .before .before .before .before .before .before .before .args .n) p (sym (c .before .before .before .before .before .gap-back-through .ensures) ∙ c .before .before .before .before .if2 .left))
 
 pub draw-nth-back-inclusive-at-spec : {M : Type 1} → statement M
 draw-nth-back-inclusive-at-spec =
@@ -72,9 +54,6 @@ draw-nth-back-inclusive-at-spec =
     returns
     gap-back-through-requires
     returns-2
-    bytes-requires
-    sub-back-through
-    sub-back-through-2
     back-through-requires
     page-answer-requires
     page-at-size-requires

@@ -40,10 +40,7 @@ sub-front-through-2 : tie.Need-sub-front-through-2
 sub-front-through-2 c = search needs
 
 front-through-requires : tie.Need-front-through-requires
-front-through-requires c κs =
-    let r = c .before .before .before .before .before .before .before .args .range in
-    let x = accepted (c .before .before .before .before .before .before .before .args .width) (r .start) (r .end) (sym (c .before .before .before .before .pages-refusal .ensures) ∙ c .before .before .before .if1 .left) in
-    (omega (arith, c .bytes .ensures, x .ends .some), omega (arith, c .bytes .ensures, x .ends .some), omega (arith, c .bytes .ensures, x .ends .some), omega (arith, c .bytes .ensures, x .ends .some))
+front-through-requires c κs = search needs
 
 page-answer-requires : tie.Need-page-answer-requires
 page-answer-requires c κs = search needs

@@ -1,0 +1,40 @@
+-- Drawing a range item by item, from either end or both. `items` are the items that a range stands for, `draw` is its `next` and its `next_back`.
+use Prim.Native.Nat.{ℕ, _≤_}
+use mathlib.Core.Path.{_≡_}
+use mathlib.Core.List.{List, [], _∷_, _++_, reverse}
+use mathlib.Core.Option.{Option, none, some, Option·map}
+use lib.ListN.{length}
+
+pub data Side : Type 0 where
+  front : Side
+  back : Side
+
+-- a draw that is not refused: the item, if there is one, and the range left
+pub record Drawn (S : Type 0) : Type 0 where
+  pub item : Option ℕ
+  pub left : S
+
+-- the items drawn from the front and those drawn from the back, each in the order drawn, and the range left
+pub record Drawing (S : Type 0) : Type 0 where
+  pub fronts : List ℕ
+  pub backs : List ℕ
+  pub left : S
+
+abbrev pub and : Option ℕ → List ℕ → List ℕ
+and none l = l
+and (some x) l = x ∷ l
+
+abbrev pub added : {S : Type 0} → Side → Option ℕ → Drawing S → Drawing S
+added front x d = record { fronts = and x (d .fronts); backs = d .backs; left = d .left }
+added back x d = record { fronts = d .fronts; backs = and x (d .backs); left = d .left }
+
+-- draws one after the other, each of the range that the one before it left; none where one of them is refused
+unfoldable pub drawing : {S : Type 0} → (Side → S → Option (Drawn S)) → List Side → S → Option (Drawing S)
+drawing draw [] r = some (record { fronts = []; backs = []; left = r })
+drawing draw (side ∷ sides) r = elim (draw side r) [ none ↦ none | some d ↦ Option·map (added side (d .item)) (drawing draw sides (d .left)) ]
+
+-- each item once, in order: those drawn from the front, those of the range left, those drawn from the back read backwards; after as many draws as there are items,
+-- none is left
+pub record EachOnce {S : Type 0} (items : S → List ℕ) (draw : Side → S → Option (Drawn S)) : Type 0 where
+  pub in-order : (sides : List Side) (r : S) (d : Drawing S) → drawing draw sides r ≡ some d → d .fronts ++ (items (d .left) ++ reverse (d .backs)) ≡ items r
+  pub to-the-end : (sides : List Side) (r : S) (d : Drawing S) → drawing draw sides r ≡ some d → length (items r) ≤ length sides → items (d .left) ≡ []
