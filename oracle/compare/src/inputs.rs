@@ -2,7 +2,6 @@
 
 pub mod boundary;
 pub mod drawn;
-pub mod generator;
 pub mod ranges;
 pub mod sizes;
 

@@ -8,9 +8,9 @@ use crate::answer::{
 };
 use crate::cases;
 use crate::inputs;
-use crate::inputs::generator::Generator;
 use crate::kind;
 use crate::operation::Operation;
+use generator::Generator;
 
 /// Never changed, so that the list stays as it is.
 const SEED: u64 = 1;

@@ -2,10 +2,10 @@
 //! most have a shape.
 
 use super::boundary::{LEVELS, PLACES};
-use super::generator::Generator;
 use super::ranges;
 use super::sizes::{last_named, NO_SIZES, SIZES};
 use crate::kind::Kind;
+use generator::Generator;
 
 /// Adds an argument of this kind to those before it.
 pub fn push(kind: Kind, args: &mut Vec<u64>, generator: &mut Generator) {

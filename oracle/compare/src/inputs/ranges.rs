@@ -1,8 +1,8 @@
 //! Ranges at whose ends an answer may change, and how many items draws pass over.
 
-use super::generator::Generator;
 use super::sizes::{NO_SIZES, SIZES};
 use crate::kind::Kind;
+use generator::Generator;
 
 const LOW_END: u64 = 1 << 47;
 const FIRST_HIGH: u64 = 0xffff_8000_0000_0000;
