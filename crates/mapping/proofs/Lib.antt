@@ -7,3 +7,4 @@ pub mod Unique
 pub mod Walk
 pub mod Spans
 pub mod Example
+pub mod Some

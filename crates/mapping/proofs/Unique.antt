@@ -157,8 +157,7 @@ module _ (s : Space) (a b : List Answer) (passed : ℕ) (aa : Agrees s a passed)
   places-below zero i l = absurd (omega arith)
   places-below (suc n) i l = same-place i (λ k b. places-below n k (omega arith))
 
-  -- also where they end with `end`
-  pub same-places : (i : ℕ) → nth a i ≡ nth b i
+  same-places : (i : ℕ) → nth a i ≡ nth b i
   same-places i = places-below (suc i) i (omega arith)
 
 -- lists of runs and stops that have the same answer at every place
@@ -172,4 +171,4 @@ same-lists (u ∷ a) (v ∷ b) ra rb e =
     cc
 
 pub unique : Unique
-unique s a b passed ra rb aa bb = same-lists a b ra rb (same-places s a b passed aa bb)
+unique s a b passed aa bb = let e = same-places s a b passed aa bb in (e, λ ra rb. same-lists a b ra rb e)

@@ -4,11 +4,11 @@ use mathlib.Core.Path.{_≡_, refl, sym, ap, _∙_}
 use mathlib.Core.List.{List}
 use mathlib.Core.Option.{Option, none, some}
 use native.Mathlib.Omega.{arith}
-use lib.Pow.{pow-pos, pow-mono, pow-add, shr-shr}
+use lib.Pow.{pow-pos, pow-mono, pow-add, shr-shr, field, mod-mod-pow}
 use lib.ListN.{getD}
 use Rattle.mapping.specs.Pages.{Rights, Reason, reserved, outside, Spanned}
 use Rattle.mapping.specs.Pages as page
-use Rattle.mapping.specs.Walk.{Entry, notPresent, reservedBit, maps, table, Walked, absent, broken, mapped, joined, allRights, pagesOf, step, walk, stateOf, space}
+use Rattle.mapping.specs.Walk.{Entry, notPresent, reservedBit, maps, table, Walked, absent, broken, mapped, joined, allRights, pagesOf, follow, step, walk, stateOf, space}
 
 -- the entry of level n + 1 that page x is under, in the table t
 abbrev pub entryOf : (entry : ℕ → ℕ → Entry) (n : ℕ) (t : List ℕ) (x : ℕ) → Entry
@@ -60,13 +60,40 @@ module _ (entry : ℕ → ℕ → Entry) (memory : ℕ → Option (List ℕ)) wh
     unfolding step
     walk-below a h t′ e m = walk-step (table a h) e ∙ rw (m, step)
 
-  -- a broken entry's level is one of the levels walked, and the pages of its span are broken alike
-  record BrokenSpan (n : ℕ) (t : List ℕ) (r : Rights) (x l : ℕ) (c : Reason) : Type 0 where
-    above-zero : 0 < l
-    at-most : l ≤ n
-    alike : (y : ℕ) → y / pagesOf (l - 1) ≡ x / pagesOf (l - 1) → walk entry memory n t r y ≡ broken l c
+  -- the walk goes by a page's indices and its place in a span alone, so by its number below their count
+  pub walk-low : (m n : ℕ) (t : List ℕ) (r : Rights) (x : ℕ) → n ≤ m → walk entry memory n t r (x % pagesOf m) ≡ walk entry memory n t r x
+  unfolding walk step
+  walk-low m zero t r x h = refl
+  walk-low m (suc n) t r x h =
+      ap (λ (i : ℕ). step memory (λ t′ r′. walk entry memory n t′ r′ (x % pagesOf m)) n r (x % pagesOf m) (entry (n + 1) (getD t i 0))) index
+      ∙ go (entry (n + 1) (getD t (x / pagesOf n % 512) 0)) (λ t′ r′. walk-low m n t′ r′ x (omega arith))
+    where
+      index : x % pagesOf m / pagesOf n % 512 ≡ x / pagesOf n % 512
+      index =
+          let e : 9 * m ≡ 9 * (m - n - 1) + 9 + 9 * n = omega arith in
+          rw e (ap (λ (k : ℕ). k % 2 ^ 9) (field x (9 * (m - n - 1) + 9) (9 * n)) ∙ mod-mod-pow (x / 2 ^ (9 * n)) (9 * (m - n - 1)) 9)
 
-  broken-span : (n : ℕ) (t : List ℕ) (r : Rights) (x l : ℕ) (c : Reason) → walk entry memory n t r x ≡ broken l c → BrokenSpan n t r x l c
+      place : x % pagesOf m % pagesOf n ≡ x % pagesOf n
+      place = let e : 9 * m ≡ 9 * (m - n) + 9 * n = omega arith in rw e (mod-mod-pow x (9 * (m - n)) (9 * n))
+
+      follows : (o : Option (List ℕ)) (f g : List ℕ → Walked) → ((t′ : List ℕ) → f t′ ≡ g t′) → follow o (n + 1) f ≡ follow o (n + 1) g
+      follows none f g e = refl
+      follows (some t′) f g e = e t′
+
+      go : (v : Entry) → ((t′ : List ℕ) (r′ : Rights) → walk entry memory n t′ r′ (x % pagesOf m) ≡ walk entry memory n t′ r′ x)
+          → step memory (λ t′ r′. walk entry memory n t′ r′ (x % pagesOf m)) n r (x % pagesOf m) v ≡ step memory (λ t′ r′. walk entry memory n t′ r′ x) n r x v
+      go notPresent f = refl
+      go reservedBit f = refl
+      go (maps g k) f = ap (λ (i : ℕ). mapped (g + i) (n + 1) (joined r k)) place
+      go (table a k) f = follows (memory a) (λ t′. walk entry memory n t′ (joined r k) (x % pagesOf m)) (λ t′. walk entry memory n t′ (joined r k) x) (λ t′. f t′ (joined r k))
+
+  -- a broken entry's level is one of the levels walked, and the pages of its span are broken alike
+  pub record BrokenSpan (n : ℕ) (t : List ℕ) (r : Rights) (x l : ℕ) (c : Reason) : Type 0 where
+    pub above-zero : 0 < l
+    pub at-most : l ≤ n
+    pub alike : (y : ℕ) → y / pagesOf (l - 1) ≡ x / pagesOf (l - 1) → walk entry memory n t r y ≡ broken l c
+
+  pub broken-span : (n : ℕ) (t : List ℕ) (r : Rights) (x l : ℕ) (c : Reason) → walk entry memory n t r x ≡ broken l c → BrokenSpan n t r x l c
   unfolding walk
   broken-span zero t r x l c e = absurd (absent-broken refl e)
   broken-span (suc n) t r x l c e = go (entryOf entry n t x) refl (λ t′ r′. broken-span n t′ r′ x l c)

@@ -88,9 +88,11 @@ pub record Agreement (s : Space) (call : ℕ → Reply) (replies : List Reply) (
   -- every list extends to one that is over, and then all pages are passed
   pub extends : (later : List Reply) × Calls s call 0 (replies ++ later) (s .size)
 
--- any list of runs and stops that meets the claims for the same passed pages is the same list
+-- The claims pin a list down: two lists that meet them for the same passed pages have the same answer at every place, and where both are of runs and stops alone, so
+-- without an `end` as their last, they are the same list.
 abbrev pub RunsAndStops : List Answer → Type 0
 RunsAndStops answers = (i : ℕ) → i < length answers → nth answers i ≡ end → ⊥
 
 abbrev pub Unique : Type 0
-Unique = (s : Space) (a b : List Answer) (passed : ℕ) → RunsAndStops a → RunsAndStops b → Agrees s a passed → Agrees s b passed → a ≡ b
+Unique =
+    (s : Space) (a b : List Answer) (passed : ℕ) → Agrees s a passed → Agrees s b passed → ((i : ℕ) → nth a i ≡ nth b i) × (RunsAndStops a → RunsAndStops b → a ≡ b)

@@ -54,3 +54,12 @@ next s (run q g c h) = q + c
 pub data Searches (s : Space) : ℕ → List Answer → ℕ → Type 0 where
   none : {p : ℕ} → Searches s p [] p
   more : {p e : ℕ} {answers : List Answer} → p < s .size → Searches s (next s (search s p)) answers e → Searches s p (search s p ∷ answers) e
+
+-- at most `k` of them, and the next page that the last of these left
+unfoldable pub answersFrom : Space → (k p : ℕ) → List Answer
+answersFrom s zero p = []
+answersFrom s (suc k) p = cond (ltb p (s .size)) (search s p ∷ answersFrom s k (next s (search s p))) []
+
+unfoldable pub leftAfter : Space → (k p : ℕ) → ℕ
+leftAfter s zero p = p
+leftAfter s (suc k) p = cond (ltb p (s .size)) (leftAfter s k (next s (search s p))) p

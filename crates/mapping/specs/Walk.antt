@@ -34,12 +34,17 @@ allRights = rights true true false
 abbrev pub pagesOf : ℕ → ℕ
 pagesOf n = 2 ^ (9 * n)
 
+-- "next table wholly in the image": what the table says, or outside, with the level `l` of the entry that names it
+abbrev pub follow : Option (List ℕ) → (l : ℕ) → (List ℕ → Walked) → Walked
+follow none l f = broken l outside
+follow (some t) l f = f t
+
 -- "Check order: present, reserved, large or level 1 (mapped), next table wholly in the image": page `x` by an entry of level `n` + 1, `r` the rights above it
 unfoldable pub step : (memory : ℕ → Option (List ℕ)) (below : List ℕ → Rights → Walked) → (n : ℕ) → Rights → (x : ℕ) → Entry → Walked
 step memory below n r x notPresent = absent (n + 1)
 step memory below n r x reservedBit = broken (n + 1) reserved
 step memory below n r x (maps g h) = mapped (g + x % pagesOf n) (n + 1) (joined r h)
-step memory below n r x (table a h) = elim (memory a) [ none ↦ broken (n + 1) outside | some t ↦ below t (joined r h) ]
+step memory below n r x (table a h) = follow (memory a) (n + 1) (λ t. below t (joined r h))
 
 -- "Each lower table is searched by the same rule, one level down.": page `x` by the table `t` of a level. An index is nine bits of the page's number
 unfoldable pub walk : (entry : ℕ → ℕ → Entry) (memory : ℕ → Option (List ℕ)) → (level : ℕ) → List ℕ → Rights → (x : ℕ) → Walked
