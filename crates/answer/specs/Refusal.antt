@@ -48,3 +48,11 @@ drawMeetsGap = 10
 -- "Frame draws: 11 if a start or end would leave 0 to 2^52 − 1."
 abbrev pub drawLeavesMemory : ℕ
 drawLeavesMemory = 11
+
+-- "then 14 if the root's 512 words aren't wholly inside"
+abbrev pub rootOutside : ℕ
+rootOutside = 14
+
+-- "`refused 13` if the version, N or file length is wrong"
+abbrev pub wrongFile : ℕ
+wrongFile = 13

@@ -14,4 +14,6 @@ pub use refusal::OVERFLOW;
 pub use refusal::PFN_TOO_LARGE;
 pub use refusal::RESULT_NOT_CANONICAL;
 pub use refusal::RESULT_NOT_PHYSICAL;
+pub use refusal::ROOT_OUTSIDE;
 pub use refusal::SIZES_DIFFER;
+pub use refusal::WRONG_FILE;

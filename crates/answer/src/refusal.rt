@@ -22,3 +22,7 @@ pub const INDEX_TOO_LARGE: u8 = 9;
 pub const PFN_TOO_LARGE: u8 = 12;
 // A draw of pages that would lead into the gap or over it.
 pub const DRAW_MEETS_GAP: u8 = 10;
+// A root table whose 512 words are not wholly in the image.
+pub const ROOT_OUTSIDE: u8 = 14;
+// An image file whose version, word count or length is wrong.
+pub const WRONG_FILE: u8 = 13;

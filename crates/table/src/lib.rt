@@ -9,6 +9,7 @@ pub use index::IndexAnswer;
 pub use index::PageTableIndex;
 pub use level::LevelAnswer;
 pub use level::PageTableLevel;
+pub use level::SPANS;
 pub use offset::OffsetAnswer;
 pub use offset::PageOffset;
 pub use size::PageSize;

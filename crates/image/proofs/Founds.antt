@@ -1,0 +1,123 @@
+-- An answer of the search by its numbers: which answer it is, by its kind.
+use Prim.Native.Nat.{ℕ, _+_, _-_, _*_, _/_, _^_, _≤_, _<_}
+use mathlib.Core.Path.{_≡_, refl, sym, ap, _∙_, subst}
+use native.Mathlib.Omega.{arith}
+use Rattle.mapping.specs.Pages.{Rights, Reason, reserved, outside}
+use Rattle.mapping.specs.Search.{Answer, end, stop, run}
+use Rattle.answer.specs.Outcome.{Outcome, gives}
+use Rattle.image.specs.Packed.{rightsBits, rightsFrom}
+use Rattle.image.specs.Search.{Report, report, pageItem, frameItem}
+use Rattle.image.specs.Search as reports
+use Rattle.image.specs.Found.{foundOf, Kept, Answers, pageAfter}
+use Rattle.image.specs.declared.found.Found.{Found}
+use Rattle.image.proofs.RightsBits.{bits-from}
+
+-- the answer of a kind with these numbers
+pub data Kinds (f : Found) : Answer → Type 0 where
+  ended : f .kind ≡ 0 → f .page ≡ 0 → Kinds f end
+  ran : (h : Rights) → f .kind ≡ 1 → f .rights ≡ rightsBits h → Kinds f (run (f .page) (f .place) (f .count) h)
+  stopped-reserved : f .kind ≡ 2 → Kinds f (stop (f .page) (f .place) reserved)
+  stopped-outside : f .kind ≡ 3 → Kinds f (stop (f .page) (f .place) outside)
+
+pub kinds : (f : Found) (a : Answer) → f ≡ foundOf a → Kinds f a
+unfolding foundOf
+kinds f end e = ended (ap (λ (g : Found). g .kind) e) (ap (λ (g : Found). g .page) e)
+kinds f (run q g c h) e = subst (λ (k : Found). Kinds k (run q g c h)) (sym e) (ran h refl refl)
+kinds f (stop q l reserved) e = subst (λ (k : Found). Kinds k (stop q l reserved)) (sym e) (stopped-reserved refl)
+kinds f (stop q l outside) e = subst (λ (k : Found). Kinds k (stop q l outside)) (sym e) (stopped-outside refl)
+
+-- the page that it leaves, by its kind
+module _ (f : Found) (a : Answer) (e : f ≡ foundOf a) where
+  pub after-end : f .kind ≡ 0 → 2 ^ 36 ≡ pageAfter a
+  after-end k = go (kinds f a e)
+    where
+      go : {b : Answer} → Kinds f b → 2 ^ 36 ≡ pageAfter b
+      go (ended z y) = refl
+      go (ran h z r) = absurd (omega arith)
+      go (stopped-reserved z) = absurd (omega arith)
+      go (stopped-outside z) = absurd (omega arith)
+
+  pub after-run : f .kind ≡ 1 → f .page + f .count ≡ pageAfter a
+  after-run k = go (kinds f a e)
+    where
+      go : {b : Answer} → Kinds f b → f .page + f .count ≡ pageAfter b
+      go (ended z y) = absurd (omega arith)
+      go (ran h z r) = refl
+      go (stopped-reserved z) = absurd (omega arith)
+      go (stopped-outside z) = absurd (omega arith)
+
+  pub after-stop : (f .kind ≡ 0 → ⊥) → (f .kind ≡ 1 → ⊥) → (f .page / 2 ^ (9 * (f .place - 1)) + 1) * 2 ^ (9 * (f .place - 1)) ≡ pageAfter a
+  after-stop n m = go (kinds f a e)
+    where
+      go : {b : Answer} → Kinds f b → (f .page / 2 ^ (9 * (f .place - 1)) + 1) * 2 ^ (9 * (f .place - 1)) ≡ pageAfter b
+      go (ended z y) = absurd (n z)
+      go (ran h z r) = absurd (m z)
+      go (stopped-reserved z) = refl
+      go (stopped-outside z) = refl
+
+-- the bounds of its numbers, by its kind
+module _ (f : Found) (p : Answers f) where
+  pub run-bounds : f .kind ≡ 1 → (f .page < 2 ^ 36) × (f .place < 2 ^ 40) × (f .page + f .count ≤ 2 ^ 36)
+  run-bounds k = go (kinds f (p .0) (p .2)) (p .1)
+    where
+      go : {b : Answer} → Kinds f b → Kept b → (f .page < 2 ^ 36) × (f .place < 2 ^ 40) × (f .page + f .count ≤ 2 ^ 36)
+      go (ended z y) h = absurd (omega arith)
+      go (ran r z s) h = h
+      go (stopped-reserved z) h = absurd (omega arith)
+      go (stopped-outside z) h = absurd (omega arith)
+
+  pub stop-bounds : (f .kind ≡ 0 → ⊥) → (f .kind ≡ 1 → ⊥) → (f .page < 2 ^ 36) × (1 ≤ f .place) × (f .place ≤ 4)
+  stop-bounds n m = go (kinds f (p .0) (p .2)) (p .1)
+    where
+      go : {b : Answer} → Kinds f b → Kept b → (f .page < 2 ^ 36) × (1 ≤ f .place) × (f .place ≤ 4)
+      go (ended z y) h = absurd (n z)
+      go (ran r z s) h = absurd (m z)
+      go (stopped-reserved z) h = h
+      go (stopped-outside z) h = h
+
+  pub page-bound : f .page < 2 ^ 36
+  page-bound = go (kinds f (p .0) (p .2)) (p .1)
+    where
+      go : {b : Answer} → Kinds f b → Kept b → f .page < 2 ^ 36
+      go (ended z y) h = omega arith
+      go (ran r z s) h = h .0
+      go (stopped-reserved z) h = h .0
+      go (stopped-outside z) h = h .0
+
+-- what is reported of it, by its kind
+module _ (f : Found) (a : Answer) (e : f ≡ foundOf a) where
+  pub reported-end : f .kind ≡ 0 → gives reports.end ≡ gives (report 48 a)
+  reported-end k = go (kinds f a e)
+    where
+      go : {b : Answer} → Kinds f b → gives reports.end ≡ gives (report 48 b)
+      go (ended z y) = refl
+      go (ran h z r) = absurd (omega arith)
+      go (stopped-reserved z) = absurd (omega arith)
+      go (stopped-outside z) = absurd (omega arith)
+
+  pub reported-run : f .kind ≡ 1 → gives (reports.run (pageItem 48 (f .page)) (frameItem (f .place)) (f .count) (rightsFrom (f .rights))) ≡ gives (report 48 a)
+  reported-run k = go (kinds f a e)
+    where
+      go : {b : Answer} → Kinds f b → gives (reports.run (pageItem 48 (f .page)) (frameItem (f .place)) (f .count) (rightsFrom (f .rights))) ≡ gives (report 48 b)
+      go (ended z y) = absurd (omega arith)
+      go (ran h z r) = ap (λ (x : Rights). gives (reports.run (pageItem 48 (f .page)) (frameItem (f .place)) (f .count) x)) (ap rightsFrom r ∙ bits-from h)
+      go (stopped-reserved z) = absurd (omega arith)
+      go (stopped-outside z) = absurd (omega arith)
+
+  pub reported-reserved : f .kind ≡ 2 → gives (reports.stop (pageItem 48 (f .page)) (f .place) reserved) ≡ gives (report 48 a)
+  reported-reserved k = go (kinds f a e)
+    where
+      go : {b : Answer} → Kinds f b → gives (reports.stop (pageItem 48 (f .page)) (f .place) reserved) ≡ gives (report 48 b)
+      go (ended z y) = absurd (omega arith)
+      go (ran h z r) = absurd (omega arith)
+      go (stopped-reserved z) = refl
+      go (stopped-outside z) = absurd (omega arith)
+
+  pub reported-outside : (f .kind ≡ 0 → ⊥) → (f .kind ≡ 1 → ⊥) → (f .kind ≡ 2 → ⊥) → gives (reports.stop (pageItem 48 (f .page)) (f .place) outside) ≡ gives (report 48 a)
+  reported-outside n m o = go (kinds f a e)
+    where
+      go : {b : Answer} → Kinds f b → gives (reports.stop (pageItem 48 (f .page)) (f .place) outside) ≡ gives (report 48 b)
+      go (ended z y) = absurd (n z)
+      go (ran h z r) = absurd (m z)
+      go (stopped-reserved z) = absurd (o z)
+      go (stopped-outside z) = refl

@@ -1,0 +1,14 @@
+pub mod Tables
+pub mod Looks
+pub mod RightsBits
+pub mod Refused
+pub mod Walked
+pub mod Fields
+pub mod Scans
+pub mod ScanRuns
+pub mod Founds
+pub mod ListKept
+pub mod ListWords
+pub mod ListRefused
+pub mod ListTurns
+pub mod Agreement

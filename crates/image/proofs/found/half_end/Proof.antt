@@ -1,0 +1,17 @@
+-- `half_end` is the page after the half that a page is in.
+use borrow.Author.Tests.{lt-ltb, le-ltb}
+use Rattle.image.proofs.found.half_end.Statement.{statement}
+use Rattle.image.proofs.found.half_end.Tie as tie
+use Rattle.image.proofs.found.half_end.Reads as reads
+use Rattle.image.proofs.found.half_end.Lts as lts
+
+-- src/found.rt:47:1
+returns : tie.Need-returns
+returns c = simp (lt-ltb _ _ (c .if1 .taken))
+
+-- src/found.rt:47:1
+returns-2 : tie.Need-returns-2
+returns-2 c = simp (le-ltb _ _ (c .if1 .left))
+
+pub half-end-spec : {M : Type 1} → statement M
+half-end-spec = tie.close (tie.spec returns returns-2)

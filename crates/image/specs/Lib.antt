@@ -1,0 +1,11 @@
+pub mod Entry
+pub mod Memory
+pub mod Span
+pub mod Look
+pub mod Packed
+pub mod Translate
+pub mod Scan
+pub mod Search
+pub mod Found
+pub mod List
+pub mod Agreement

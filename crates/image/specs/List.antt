@@ -1,0 +1,74 @@
+-- A list of searches into lent words: "from a start page, the answers of successive searches".
+use Prim.Native.Nat.{ℕ, _+_, _/_}
+use mathlib.Core.Bool.{cond}
+use mathlib.Core.List.{List, [], _∷_, _++_}
+use mathlib.Core.Option.{Option, none, some}
+use mathlib.Core.Path.{_≡_}
+use lib.Dec.{ltb}
+use lib.ListN.{length, take, drop}
+use Rattle.answer.specs.Outcome.{Outcome, gives, refuses}
+use Rattle.answer.specs.Outcome as outcome
+use Rattle.mapping.specs.Pages.{Space}
+use Rattle.mapping.specs.Search.{Answer, answersFrom, leftAfter}
+use Rattle.addr.specs.Address.{virt}
+use Rattle.addr.specs.Item.{Item, item, givenItem}
+use Rattle.page.specs.Page as page
+use Rattle.image.specs.Translate.{givenImage, pageNumber}
+use Rattle.image.specs.Search.{pageItem, report, wordsOf, pagesOf}
+use Rattle.image.specs.Found.{foundOf}
+use Rattle.image.specs.declared.found.Found.{Found}
+use Rattle.image.specs.declared.list_searches.ListAnswer.{ListAnswer}
+use Rattle.image.specs.declared.list_searches.ListAnswer.the-variants as answer
+
+-- the words of answers, one after the other
+unfoldable pub allWords : ℕ → List Answer → List ℕ
+allWords w [] = []
+allWords w (a ∷ answers) = wordsOf (report w a) ++ allWords w answers
+
+-- how many answers were written, and the next page that the last of them left; none once the search is over
+pub record Listed : Type 0 where
+  pub written : ℕ
+  pub next : Option Item
+
+-- what a call answers, and the lent words after it
+pub record Listing : Type 0 where
+  pub answer : Outcome Listed
+  pub words : List ℕ
+
+-- the answers that have room in the lent words, five words each
+abbrev pub room : List ℕ → ℕ
+room out = length out / 5
+
+abbrev pub listedFrom : ℕ → Space → (p : ℕ) → List ℕ → Listed
+listedFrom w s p out =
+    record {
+      written = length (answersFrom s (room out) p);
+      next = cond (ltb (leftAfter s (room out) p) (s .size)) (some (pageItem w (leftAfter s (room out) p))) none;
+    }
+
+-- the answers' words stand at the start of the lent ones; on a refusal, and beyond them, the lent words are as they were
+abbrev pub settled : ℕ → Outcome (Space) → (p : ℕ) → List ℕ → Listing
+settled w (gives s) p out =
+    record {
+      answer = gives (listedFrom w s p out);
+      words = allWords w (answersFrom s (room out) p) ++ drop (length (allWords w (answersFrom s (room out) p))) out;
+    }
+settled w outcome.none p out = record { answer = outcome.none; words = out }
+settled w (refuses k) p out = record { answer = refuses k; words = out }
+
+unfoldable pub listing : (w levels : ℕ) → List ℕ → (base root a : ℕ) → List ℕ → Listing
+listing w levels image base root a out =
+    settled w (givenImage 52 image base root (λ t. givenItem (virt w) a 0x1000 (gives (pagesOf levels image base t)))) (pageNumber w a) out
+
+-- what each case of an answer stands for
+abbrev pub listedOf : ListAnswer → Outcome Listed
+listedOf (answer.Over n) = gives (record { written = n; next = none })
+listedOf (answer.More n p) = gives (record { written = n; next = some (item (page.start p) (page.bytes p)) })
+listedOf (answer.Refused k) = refuses k
+
+abbrev pub left : ListAnswer → List ℕ → Listing
+left r out = record { answer = listedOf r; words = out }
+
+-- an answer's words at a place of the lent ones, all else as it was
+abbrev pub Stored : (i : ℕ) → Found → List ℕ → List ℕ → Type 0
+Stored i f before after = (a : Answer) → f ≡ foundOf a → after ≡ take i before ++ (wordsOf (report 48 a) ++ drop (i + 5) before)

@@ -1,0 +1,72 @@
+-- What the run search answers, for any number of levels. The sentences are those of document 01, "Translation and mapped runs".
+use Prim.Native.Nat.{ℕ, _*_}
+use mathlib.Core.Bool.{true}
+use mathlib.Core.List.{List, [], _∷_}
+use Rattle.answer.specs.Outcome.{Outcome, gives, refuses}
+use Rattle.laws.specs.Number.{start}
+use Rattle.mapping.specs.Pages.{Rights, Reason, reserved, outside, Space}
+use Rattle.mapping.specs.Search.{Answer, search}
+use Rattle.mapping.specs.Search as found
+use Rattle.mapping.specs.Walk.{space}
+use Rattle.addr.specs.Address.{virt}
+use Rattle.addr.specs.Item.{Item, item, givenItem, itemRefusal, firstRefusal}
+use Rattle.frame.specs.Frame as frame
+use Rattle.page.specs.Page as page
+use Rattle.image.specs.Entry.{entry}
+use Rattle.image.specs.Memory.{tableAt}
+use Rattle.image.specs.Packed.{rightsBits}
+use Rattle.image.specs.Translate.{givenImage, imageRefusal, pageNumber, rightsHeld}
+use Rattle.image.specs.declared.run_search.StopReason.{StopReason}
+use Rattle.image.specs.declared.run_search.StopReason.the-variants as reason
+use Rattle.image.specs.declared.run_search.SearchAnswer.{SearchAnswer}
+use Rattle.image.specs.declared.run_search.SearchAnswer.the-variants as answer
+
+-- what is reported of an answer: its page and frame as 4 KiB items by their addresses
+pub data Report : Type 0 where
+  end : Report
+  stop : (page : Item) (level : ℕ) (reason : Reason) → Report
+  run : (page frame : Item) (count : ℕ) → Rights → Report
+
+-- page n starts at the sign extension of n × 4,096
+abbrev pub pageItem : ℕ → ℕ → Item
+pageItem w n = item (start w 4096 n) 0x1000
+
+abbrev pub frameItem : ℕ → Item
+frameItem n = item (n * 4096) 0x1000
+
+abbrev pub report : ℕ → Answer → Report
+report w found.end = end
+report w (found.stop q l r) = stop (pageItem w q) l r
+report w (found.run q g c h) = run (pageItem w q) (frameItem g) c h
+
+-- an answer as five words: 0 end, 1 run, 2 and 3 a stop that is reserved or outside; the page; the frame, or the level; the count; the rights as bits
+abbrev pub wordsOf : Report → List ℕ
+wordsOf end = 0 ∷ 0 ∷ 0 ∷ 0 ∷ 0 ∷ []
+wordsOf (run p f c h) = 1 ∷ p .start ∷ f .start ∷ c ∷ rightsBits h ∷ []
+wordsOf (stop p l reserved) = 2 ∷ p .start ∷ l ∷ 0 ∷ 0 ∷ []
+wordsOf (stop p l outside) = 3 ∷ p .start ∷ l ∷ 0 ∷ 0 ∷ []
+
+-- the pages of an image, by the words of its root table
+abbrev pub pagesOf : (levels : ℕ) → List ℕ → (base : ℕ) → List ℕ → Space
+pagesOf levels image base t = space (entry 52 true) (tableAt image base) levels t
+
+-- "Both calls: base 2, 3; root 2, 3 ..; then 14 ..; only then .. the 4 KiB page (1, 3)."
+unfoldable pub searching : (w levels : ℕ) → List ℕ → (base root a : ℕ) → Outcome Report
+searching w levels image base root a =
+    givenImage 52 image base root
+    (λ t. givenItem (virt w) a 0x1000 (gives (report w (search (pagesOf levels image base t) (pageNumber w a)))))
+
+-- the number that refuses a search, 0 for none
+unfoldable pub searchRefusal : List ℕ → (base root a : ℕ) → ℕ
+searchRefusal image base root a = firstRefusal (imageRefusal image base root) (itemRefusal (virt 48) a 0x1000)
+
+-- what each case of an answer stands for
+abbrev pub reasonOf : StopReason → Reason
+reasonOf reason.Reserved = reserved
+reasonOf reason.Outside = outside
+
+abbrev pub reportOf : SearchAnswer → Outcome Report
+reportOf answer.End = gives end
+reportOf (answer.Stop p l r) = gives (stop (item (page.start p) (page.bytes p)) l (reasonOf r))
+reportOf (answer.Run p f c h) = gives (run (item (page.start p) (page.bytes p)) (item (frame.start f) (frame.bytes f)) c (rightsHeld h))
+reportOf (answer.Refused k) = refuses k

@@ -1,0 +1,11 @@
+-- Pages and the spans of entries, by page numbers: `n` + 1 is the level of the entry.
+use Prim.Native.Nat.{ℕ, _+_, _*_, _/_, _%_}
+use Rattle.mapping.specs.Walk.{pagesOf}
+
+-- how far into its span a page is
+abbrev pub within : ℕ → ℕ → ℕ
+within n x = x % pagesOf n
+
+-- the page after the last of the span that page `x` is in
+unfoldable pub after : ℕ → ℕ → ℕ
+after n x = (x / pagesOf n + 1) * pagesOf n

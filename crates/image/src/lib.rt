@@ -1,0 +1,23 @@
+// Page tables in a memory image: tables, entries, translation, and the search for mapped runs. An image is lent words, never written; base is the physical address of
+// its first word.
+mod entry;
+mod found;
+mod list_searches;
+mod look;
+mod memory;
+mod refusal;
+mod rights;
+mod run_search;
+mod scan;
+mod span;
+mod translation;
+mod walk;
+
+pub use list_searches::ListAnswer;
+pub use list_searches::list;
+pub use rights::Rights;
+pub use run_search::SearchAnswer;
+pub use run_search::StopReason;
+pub use run_search::search;
+pub use translation::TranslateAnswer;
+pub use translation::translate;
