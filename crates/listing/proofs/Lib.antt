@@ -1,0 +1,4 @@
+pub mod Fewest
+pub mod Growing
+pub mod Number
+pub mod Words
