@@ -34,6 +34,7 @@ enum {
     WUOHTAN_INDEX_TOO_LARGE = 9,    /* an index of 512 or more, an offset of 4096 or more */
     WUOHTAN_DRAW_MEETS_GAP = 10,    /* a draw of pages that would lead into the gap or over it */
     WUOHTAN_PFN_TOO_LARGE = 12,     /* a frame number whose frame would start at 2^52 or more */
+    WUOHTAN_ROOT_OUTSIDE = 14,      /* a root table that is not wholly in the image */
     WUOHTAN_NO_SUCH_CHOICE = 253,   /* a level that is not 1 to 4, a size that is no page size */
     WUOHTAN_NO_ROOM = 254,
     WUOHTAN_NONE = 255
@@ -212,6 +213,24 @@ uint8_t wuohtan_phys_frame_range_inclusive_next_back(uint64_t start, uint64_t st
                                                      uint64_t end_size, uint64_t *out, size_t len);
 uint8_t wuohtan_phys_frame_range_inclusive_nth_back(uint64_t start, uint64_t start_size, uint64_t end,
                                                     uint64_t end_size, uint64_t n, uint64_t *out, size_t len);
+
+/* Images. image[0..words] is never written; base is the physical address of its first word, root that of the table that
+ * the walk begins with. Rights are bits: 1 writable, 2 user, 4 no-execute.
+ *
+ * Translation, four words: 0 mapped, 1 absent, 2 reserved, 3 outside; the physical address, or the entry's level; the
+ * size of the page in bytes, or 0; the rights, or 0. */
+uint8_t wuohtan_translate(const uint64_t *image, size_t words, uint64_t base, uint64_t root, uint64_t addr,
+                          uint64_t *out, size_t len);
+/* The first mapped run or broken entry from a 4 KiB page on, five words: 0 end, 1 run, 2 a reserved entry, 3 a table
+ * outside; the page; the first frame, or the entry's level; how many pages, or 0; the rights, or 0. */
+uint8_t wuohtan_search(const uint64_t *image, size_t words, uint64_t base, uint64_t root, uint64_t page,
+                       uint64_t *out, size_t len);
+/* The answers of the searches from a page on, each from the page that the one before it left, as many as have room in
+ * answers[0..room], five words each as above. out has three words: how many answers were written; 1 if the search is
+ * over; the next page, or 0. WUOHTAN_NO_ROOM says that out is too short for these: nothing was asked. Unless the status
+ * is WUOHTAN_ANSWERED, answers is left as it was; if it is, so is the part of it behind the answers. */
+uint8_t wuohtan_list(const uint64_t *image, size_t words, uint64_t base, uint64_t root, uint64_t page,
+                     uint64_t *answers, size_t room, uint64_t *out, size_t len);
 
 #ifdef __cplusplus
 }

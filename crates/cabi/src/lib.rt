@@ -3,6 +3,7 @@
 pub mod align;
 pub mod frame_ranges;
 pub mod frames;
+pub mod images;
 pub mod page_ranges;
 pub mod pages;
 pub mod phys_addr;

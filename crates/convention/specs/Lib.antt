@@ -1,3 +1,4 @@
 pub mod Convention
 pub mod Choice
 pub mod Ranges
+pub mod Images

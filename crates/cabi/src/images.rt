@@ -1,0 +1,73 @@
+// Translation, the run search, and lists of searches.
+use addr::PhysAddr;
+use addr::VirtAddr;
+use convention::NO_ROOM;
+use convention::give_listed;
+use convention::give_search;
+use convention::give_translation;
+use image::list;
+use image::search;
+use image::translate;
+ghost use mathlib.Core.Path.{_≡_};
+ghost use Rattle.image.specs.List.{listing};
+ghost use Rattle.image.specs.Search.{searching};
+ghost use Rattle.image.specs.Translate as Translate;
+ghost use Rattle.convention.specs.Convention.{left, leaves};
+ghost use Rattle.convention.specs.Images.{translation, report, leftList, leavesList};
+
+#[no_mangle]
+pub extern "C" fn wuohtan_translate(
+    image: &[u64],
+    base: u64,
+    root: u64,
+    addr: u64,
+    out: &mut [u64],
+) -> u8
+    ensures { λ r. ⌜ left r (now (out .exit)) ≡ leaves (translation (Translate.translation 48 4 (now (image .entry)) base root addr)) (now (out .entry)) ⌝ }
+{
+    give_translation(
+        translate(image, PhysAddr(base), PhysAddr(root), VirtAddr(addr)),
+        out,
+    )
+}
+
+#[no_mangle]
+pub extern "C" fn wuohtan_search(
+    image: &[u64],
+    base: u64,
+    root: u64,
+    page: u64,
+    out: &mut [u64],
+) -> u8
+    ensures { λ r. ⌜ left r (now (out .exit)) ≡ leaves (report (searching 48 4 (now (image .entry)) base root page)) (now (out .entry)) ⌝ }
+{
+    give_search(
+        search(image, PhysAddr(base), PhysAddr(root), VirtAddr(page)),
+        out,
+    )
+}
+
+// The answers go to their own words, five for each.
+#[no_mangle]
+pub extern "C" fn wuohtan_list(
+    image: &[u64],
+    base: u64,
+    root: u64,
+    page: u64,
+    answers: &mut [u64],
+    out: &mut [u64],
+) -> u8
+    ensures { λ r. ⌜ leftList (now (answers .exit)) r (now (out .exit)) ≡ leavesList (listing 48 4 (now (image .entry)) base root page (now (answers .entry))) (now (answers .entry)) (now (out .entry)) ⌝ }
+{
+    if out.len() < 3 {
+        return NO_ROOM;
+    }
+    let listed = list(
+        image,
+        PhysAddr(base),
+        PhysAddr(root),
+        VirtAddr(page),
+        answers,
+    );
+    give_listed(listed, out)
+}

@@ -1,0 +1,101 @@
+// Translations and searches, stored.
+use crate::ranges::give_four;
+use crate::status::ANSWERED;
+use crate::status::NO_ROOM;
+use image::ListAnswer;
+use image::Rights;
+use image::SearchAnswer;
+use image::StopReason;
+use image::TranslateAnswer;
+ghost use mathlib.Core.Path.{_≡_};
+ghost use mathlib.Core.List.{[], _∷_};
+ghost use Rattle.answer.specs.Outcome.{gives};
+ghost use Rattle.image.specs.List.{listedOf};
+ghost use Rattle.image.specs.Packed.{rightsBits};
+ghost use Rattle.image.specs.Search.{reportOf};
+ghost use Rattle.image.specs.Translate.{rightsHeld, translationOf};
+ghost use Rattle.convention.specs.Convention.{left, leaves};
+ghost use Rattle.convention.specs.Images.{translation, report, listed};
+
+// The rights as bits: 1 writable, 2 user, 4 no-execute.
+fn bits_of(rights: Rights) -> u64
+    ensures { λ r. ⌜ r ≡ rightsBits (rightsHeld rights) ⌝ }
+{
+    let w = rights.writable as u64;
+    let u = rights.user as u64;
+    let x = rights.no_execute as u64;
+    w + 2 * u + 4 * x
+}
+
+// Stores five words.
+fn give_five(a: u64, b: u64, c: u64, d: u64, e: u64, out: &mut [u64]) -> u8
+    ensures { λ r. ⌜ left r (now (out .exit)) ≡ leaves (gives (a ∷ b ∷ c ∷ d ∷ e ∷ [])) (now (out .entry)) ⌝ }
+{
+    if out.len() < 5 {
+        return NO_ROOM;
+    }
+    out[0] = a;
+    out[1] = b;
+    out[2] = c;
+    out[3] = d;
+    out[4] = e;
+    ANSWERED
+}
+
+pub fn give_translation(answer: TranslateAnswer, out: &mut [u64]) -> u8
+    ensures { λ r. ⌜ left r (now (out .exit)) ≡ leaves (translation (translationOf answer)) (now (out .entry)) ⌝ }
+{
+    match answer {
+        TranslateAnswer::Mapped(address, size, rights) => {
+            give_four(0, address.0, size.bytes(), bits_of(rights), out)
+        }
+        TranslateAnswer::Absent(level) => give_four(1, level, 0, 0, out),
+        TranslateAnswer::Reserved(level) => give_four(2, level, 0, 0, out),
+        TranslateAnswer::Outside(level) => give_four(3, level, 0, 0, out),
+        TranslateAnswer::Refused(n) => n,
+    }
+}
+
+pub fn give_search(answer: SearchAnswer, out: &mut [u64]) -> u8
+    ensures { λ r. ⌜ left r (now (out .exit)) ≡ leaves (report (reportOf answer)) (now (out .entry)) ⌝ }
+{
+    match answer {
+        SearchAnswer::End => give_five(0, 0, 0, 0, 0, out),
+        SearchAnswer::Stop(page, level, reason) => match reason {
+            StopReason::Reserved => give_five(2, page.start_address.0, level, 0, 0, out),
+            StopReason::Outside => give_five(3, page.start_address.0, level, 0, 0, out),
+        },
+        SearchAnswer::Run(page, frame, count, rights) => give_five(
+            1,
+            page.start_address.0,
+            frame.start_address.0,
+            count,
+            bits_of(rights),
+            out,
+        ),
+        SearchAnswer::Refused(n) => n,
+    }
+}
+
+// Stores three words.
+fn give_three(a: u64, b: u64, c: u64, out: &mut [u64]) -> u8
+    ensures { λ r. ⌜ left r (now (out .exit)) ≡ leaves (gives (a ∷ b ∷ c ∷ [])) (now (out .entry)) ⌝ }
+{
+    if out.len() < 3 {
+        return NO_ROOM;
+    }
+    out[0] = a;
+    out[1] = b;
+    out[2] = c;
+    ANSWERED
+}
+
+pub fn give_listed(answer: ListAnswer, out: &mut [u64]) -> u8
+    ensures { λ r. ⌜ left r (now (out .exit)) ≡ leaves (listed (listedOf answer)) (now (out .entry)) ⌝ }
+{
+    match answer {
+        ListAnswer::Over(n) => give_three(n, 1, 0, out),
+        ListAnswer::More(n, page) => give_three(n, 0, page.start_address.0, out),
+        ListAnswer::Refused(n) => n,
+    }
+}
