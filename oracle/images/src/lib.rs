@@ -6,6 +6,7 @@
 
 pub mod draft;
 pub mod generate;
+pub mod hand_written;
 pub mod image;
 pub mod library;
 #[cfg(feature = "library")]

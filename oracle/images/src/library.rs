@@ -1,7 +1,9 @@
-//! The port's two functions on images, compared with the reference.
+//! The port's functions on images, compared with the reference.
 //!
 //! They are handed in by address, so that this can be tried with others: `port.rs` has the port's
 //! own, behind the feature `library`.
+
+mod list;
 
 use std::fmt;
 
@@ -25,10 +27,24 @@ pub type Function = unsafe extern "C" fn(
     room: usize,
 ) -> u8;
 
+/// The same with answers and their room in words before out.
+pub type ListFunction = unsafe extern "C" fn(
+    image: *const u64,
+    words: usize,
+    base: u64,
+    root: u64,
+    page: u64,
+    answers: *mut u64,
+    answers_room: usize,
+    out: *mut u64,
+    room: usize,
+) -> u8;
+
 #[derive(Clone, Copy)]
 pub struct Library {
     pub translate: Function,
     pub search: Function,
+    pub list: ListFunction,
 }
 
 /// A status, and the words of out if it is `ANSWERED`.
@@ -43,7 +59,7 @@ pub struct Answer {
 pub struct Difference {
     pub function: &'static str,
     pub place: u64,
-    pub reference: Answer,
+    pub reference: String,
     pub library: String,
 }
 
@@ -51,12 +67,12 @@ impl fmt::Display for Difference {
     fn fmt(&self, f: &mut fmt::Formatter) -> fmt::Result {
         write!(f, "difference: {} {:x}", self.function, self.place)?;
         write!(f, "\n  library    {}", self.library)?;
-        write!(f, "\n  reference  {:x?}", self.reference)
+        write!(f, "\n  reference  {}", self.reference)
     }
 }
 
-/// Asks both functions at the borders of what the image has, beside them, at drawn places and at
-/// such that are refused. Gives the number of questions.
+/// Asks translate and search at the borders of what the image has, beside them, at drawn places and
+/// at such that are refused, and for lists. Gives the number of questions.
 pub fn compare(
     library: Library,
     image: &Image,
@@ -74,13 +90,14 @@ pub fn compare(
                 return Err(Difference {
                     function: name,
                     place,
-                    reference,
+                    reference: format!("{reference:x?}"),
                     library: answer.map_or_else(|trouble| trouble, |a| format!("{a:x?}")),
                 });
             }
         }
     }
-    Ok(2 * places.len() as u64)
+    let lists = list::compare(library.list, image, generator)?;
+    Ok(2 * places.len() as u64 + lists)
 }
 
 /// What translate should answer: mapped 0 with the physical address, the size and the rights, or
@@ -101,14 +118,18 @@ pub fn translated(image: &Image, address: u64) -> Answer {
 /// What the search should answer: end 0, run 1 with page, frame, count and rights, or a stop with
 /// page and level, reserved 2, outside 3.
 pub fn searched(image: &Image, page: u64) -> Answer {
-    answer(search(image, page).map(|found| match found {
-        Found::End => vec![0; 5],
+    answer(search(image, page).map(|found| found_words(found).to_vec()))
+}
+
+fn found_words(found: Found) -> [u64; 5] {
+    match found {
+        Found::End => [0; 5],
         Found::Run {
             page,
             frame,
             count,
             rights,
-        } => vec![
+        } => [
             1,
             page_address(page),
             frame * PAGE_BYTES,
@@ -124,9 +145,9 @@ pub fn searched(image: &Image, page: u64) -> Answer {
                 Reason::Reserved => 2,
                 Reason::Outside => 3,
             };
-            vec![kind, page_address(page), level.into(), 0, 0]
+            [kind, page_address(page), level.into(), 0, 0]
         }
-    }))
+    }
 }
 
 fn answer(result: Result<Vec<u64>, u8>) -> Answer {
@@ -283,6 +304,7 @@ mod tests {
     const OWN: Library = Library {
         translate: own_translate,
         search: own_search,
+        list: list::tests::own_list,
     };
 
     #[test]

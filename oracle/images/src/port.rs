@@ -22,9 +22,22 @@ unsafe extern "C" {
         out: *mut u64,
         room: usize,
     ) -> u8;
+
+    fn wuohtan_list(
+        image: *const u64,
+        words: usize,
+        base: u64,
+        root: u64,
+        page: u64,
+        answers: *mut u64,
+        answers_room: usize,
+        out: *mut u64,
+        room: usize,
+    ) -> u8;
 }
 
 pub const PORT: Library = Library {
     translate: wuohtan_translate,
     search: wuohtan_search,
+    list: wuohtan_list,
 };
