@@ -1,5 +1,5 @@
 -- The table at an address has 512 words, so that fewer say that there is none.
-use Prim.Native.Nat.{ℕ, _+_, _<_, _≤_}
+use Prim.Native.Nat.{ℕ, _+_, _-_, _<_, _≤_}
 use mathlib.Core.Path.{_≡_, refl}
 use mathlib.Core.Bool.{Bool, true, false, cond}
 use mathlib.Core.List.{List}
@@ -8,6 +8,7 @@ use native.Mathlib.Omega.{arith}
 use borrow.Author.Tests.{leb-true}
 use lib.Dec.{leb}
 use lib.ListN.{length, take, drop, length-take, length-drop}
+use lib.Seq.{take-all}
 use Rattle.image.specs.Memory.{place, tableAt, tableWords}
 
 module _ (image : List ℕ) (base a : ℕ) where
@@ -29,3 +30,7 @@ module _ (image : List ℕ) (base a : ℕ) where
       go : (o : Option (List ℕ)) → 512 ≤ length (tableWords o) → o ≡ some (tableWords o)
       go none h = absurd (omega arith)
       go (some t) h = refl
+
+-- a part that is the whole
+pub whole-part : (words : List ℕ) → take (length words - 0) (drop 0 words) ≡ words
+whole-part words = take-all (length words - 0) words (omega arith)

@@ -72,8 +72,9 @@ pub(crate) fn scan(
                 }
             }
             Look::Next(lower, word) => {
+                let whole = &image[0..image.len()];
                 let reached = scan(
-                    image,
+                    whole,
                     base,
                     lower,
                     below,

@@ -36,7 +36,9 @@ pub(crate) fn walk_table(
             256 * frame + 32 * rights_bits(all & word, any | word) + 4 * level + 3
         }
         Look::Next(next, word) => {
-            walk_table(image, base, next, below, page, all & word, any | word)
+            // A part that is the whole: the words' place and number then go on in registers.
+            let whole = &image[0..image.len()];
+            walk_table(whole, base, next, below, page, all & word, any | word)
         }
     }
 }

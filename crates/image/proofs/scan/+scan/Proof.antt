@@ -11,13 +11,16 @@ use lib.Dec.{eqb}
 use lib.Pow.{pow-pos}
 use borrow.Author.Needs.{needs}
 use Rattle.laws.proofs.Cases.{test-fails, test-holds}
+use Rattle.mapping.specs.Search.{first}
 use Rattle.mapping.proofs.First.{first-all}
 use Rattle.image.specs.Memory.{tableAt}
 use Rattle.image.specs.Packed.{rightsBits, rightsOver}
+use Rattle.image.specs.Scan.{pagesBy, wanted}
 use Rattle.image.specs.Span.{within, after}
 use Rattle.image.specs.Look.{lookIn}
 use Rattle.image.specs.declared.look.Look.{Look}
 use Rattle.image.proofs.Looks.{Sound, look-sound}
+use Rattle.image.proofs.Tables.{whole-part}
 use Rattle.image.proofs.Scans.{Query, pages, wants, firstFrom, Turn, turn, ahead-of, after-top}
 use Rattle.image.proofs.Scans.{at-outside, at-reserved, at-absent, past-absent, at-leaf, past-leaf, in-table, past-table}
 use borrow.Fn.Kinds.{In}
@@ -220,19 +223,44 @@ scan-returns-4 t c =
 scan-enum-known-found-2 : (t : ℕ) → scan-lts.Need-enum-known-found-2 (calls t) (scan-at t) scan.Post scan-Inv-loop scan-μ-loop
 scan-enum-known-found-2 t c = search needs
 
+scan-sub-whole : (t : ℕ) → scan-lts.Need-sub-whole (calls t) (scan-at t) scan.Post scan-Inv-loop scan-μ-loop
+scan-sub-whole t c = search needs
+
+scan-part-whole-start : (t : ℕ) → scan-lts.Need-part-whole-start (calls t) (scan-at t) scan.Post scan-Inv-loop scan-μ-loop
+scan-part-whole-start t c = search needs
+
+scan-part-whole-end : (t : ℕ) → scan-lts.Need-part-whole-end (calls t) (scan-at t) scan.Post scan-Inv-loop scan-μ-loop
+scan-part-whole-end t c = search needs
+
 scan-scan-requires : (t : ℕ) → scan-lts.Need-scan-requires (calls t) (scan-at t) scan.Post scan-Inv-loop scan-μ-loop
 scan-scan-requires t c κs =
-    let k = c .before .before .before in
+    let k = c .before .before .before .before in
     let u = turn-of t k in
-    omega (arith, start t k .pre, sound t k (c .before .found2 .given .1))
+    omega (arith, start t k .pre, sound t k (c .before .before .found2 .given .1))
+
+-- the part that is handed on is the whole
+reached : (t : ℕ) (c : scan-lts.After-scan (calls t) (scan-at t) scan.Post scan-Inv-loop scan-μ-loop)
+    → (let k = c .before .before .before .before .before in
+    let s = looking t k in
+    let v = c .before .before .before .found2 .given .0 in
+    c .scan .result
+    ≡ first (pagesBy (s .memory) (s .level - 1) (v .0) (rightsOver (bitAnd (s .all) (v .1 .0)) (bitOr (s .any) (v .1 .0)))) (wanted (page t k) (s .frame + (page t k - s .from)) (s .want)) (after (s .level - 1) (page t k) - page t k) (page t k))
+reached t c =
+    let k = c .before .before .before .before .before in
+    let s = looking t k in
+    let v = c .before .before .before .found2 .given .0 in
+    let a = start t k .args in
+    c .scan .ensures
+    ∙ ap (λ (i : List ℕ). first (pagesBy (tableAt i (a .base)) (s .level - 1) (v .0) (rightsOver (bitAnd (s .all) (v .1 .0)) (bitOr (s .any) (v .1 .0)))) (wanted (page t k) (s .frame + (page t k - s .from)) (s .want)) (after (s .level - 1) (page t k) - page t k) (page t k))
+    (whole-part (now (a .image)))
 
 scan-returns-5 : (t : ℕ) → scan-lts.Need-returns-5 (calls t) (scan-at t) scan.Post scan-Inv-loop scan-μ-loop
 scan-returns-5 t c =
-    let k = c .before .before .before .before .before in
-    let v = c .before .before .before .found2 .given .0 in
+    let k = c .before .before .before .before .before .before in
+    let v = c .before .before .before .before .found2 .given .0 in
     found t k (c .before .scan .result)
-    (in-table (turn-of t k) (v .0) (v .1 .0) (seen t k (c .before .before .before .found2 .given .1))
-    (c .before .scan .result) (c .before .scan .ensures) (c .if3 .taken))
+    (in-table (turn-of t k) (v .0) (v .1 .0) (seen t k (c .before .before .before .before .found2 .given .1))
+    (c .before .scan .result) (reached t (c .before)) (c .if3 .taken))
 
 scan-loop-less : (t : ℕ) → scan-lts.Need-loop-less (calls t) (scan-at t) scan.Post scan-Inv-loop scan-μ-loop
 scan-loop-less t c = less t (c .before .before .before)
@@ -254,15 +282,15 @@ scan-loop-again-2 t c =
     (test-holds (tested t (c .before)) (c .if2 .left)))
 
 scan-loop-less-3 : (t : ℕ) → scan-lts.Need-loop-less-3 (calls t) (scan-at t) scan.Post scan-Inv-loop scan-μ-loop
-scan-loop-less-3 t c = less t (c .before .before .before .before .before)
+scan-loop-less-3 t c = less t (c .before .before .before .before .before .before)
 
 scan-loop-again-3 : (t : ℕ) → scan-lts.Need-loop-again-3 (calls t) (scan-at t) scan.Post scan-Inv-loop scan-μ-loop
 scan-loop-again-3 t c =
-    let k = c .before .before .before .before .before in
-    let v = c .before .before .before .found2 .given .0 in
+    let k = c .before .before .before .before .before .before in
+    let v = c .before .before .before .before .found2 .given .0 in
     again t k
-    (past-table (turn-of t k) (v .0) (v .1 .0) (seen t k (c .before .before .before .found2 .given .1))
-    (c .before .scan .result) (c .before .scan .ensures) (c .if3 .left))
+    (past-table (turn-of t k) (v .0) (v .1 .0) (seen t k (c .before .before .before .before .found2 .given .1))
+    (c .before .scan .result) (reached t (c .before)) (c .if3 .left))
 
 scan-returns-6 : (t : ℕ) → scan-lts.Need-returns-6 (calls t) (scan-at t) scan.Post scan-Inv-loop scan-μ-loop
 scan-returns-6 t c =
@@ -300,6 +328,9 @@ pub +scan-spec : {M : Type 1} → statement M
     (scan-is-due-requires t)
     (scan-returns-4 t)
     (scan-enum-known-found-2 t)
+    (scan-sub-whole t)
+    (scan-part-whole-start t)
+    (scan-part-whole-end t)
     (scan-scan-requires t)
     (scan-returns-5 t)
     (scan-loop-less t)

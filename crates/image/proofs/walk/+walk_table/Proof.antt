@@ -1,11 +1,13 @@
 -- `walk_table` meets its contract.
 use mathlib.Core.Path.{_≡_, sym, ap, _∙_, subst}
 use mathlib.Core.Bool.{true}
+use mathlib.Core.List.{List}
 use Prim.Native.Nat.{ℕ, _+_, _-_, _*_, _%_, _^_, _<_}
 use native.Mathlib.Omega.{arith}
 use native.Mathlib.Nat.{mod-lt}
 use denote.Ref.{now}
 use lib.Bits.{bitAnd, bitOr}
+use lib.ListN.{length, take, drop}
 use lib.Pow.{pow-pos}
 use borrow.Author.Needs.{needs}
 use borrow.Fn.Kinds.{In}
@@ -18,6 +20,7 @@ use Rattle.image.specs.declared.look.Look.{Look}
 use Rattle.image.specs.declared.look.Look.the-variants as look
 use Rattle.image.proofs.Looks.{reads, walk-level, Sound, look-sound}
 use Rattle.image.proofs.RightsBits.{rights-step, bits-lt}
+use Rattle.image.proofs.Tables.{whole-part}
 use Rattle.image.proofs.walk.walk_table.Reads as walk-table
 use Rattle.image.proofs.walk.walk_table.Kinds as walk-table-kinds
 use Rattle.image.proofs.walk.+walk_table.Lts-walk_table as walk-table-lts
@@ -160,10 +163,19 @@ walk-table-add-result-6 t c = omega (arith, frame-lt t (c .before), rights-lt t 
 walk-table-enum-known-found-2 : (t : ℕ) → walk-table-lts.Need-enum-known-found-2 (calls t) (walk-table-at t) walk-table.Post
 walk-table-enum-known-found-2 t c = search needs
 
+walk-table-sub-whole : (t : ℕ) → walk-table-lts.Need-sub-whole (calls t) (walk-table-at t) walk-table.Post
+walk-table-sub-whole t c = search needs
+
+walk-table-part-whole-start : (t : ℕ) → walk-table-lts.Need-part-whole-start (calls t) (walk-table-at t) walk-table.Post
+walk-table-part-whole-start t c = search needs
+
+walk-table-part-whole-end : (t : ℕ) → walk-table-lts.Need-part-whole-end (calls t) (walk-table-at t) walk-table.Post
+walk-table-part-whole-end t c = search needs
+
 walk-table-walk-table-requires : (t : ℕ) → walk-table-lts.Need-walk-table-requires (calls t) (walk-table-at t) walk-table.Post
 walk-table-walk-table-requires t c κs =
-    let s = sound t (c .before .before .before) _ (c .before .found2 .given .1) in
-    let p = c .before .before .before .before .before .pre in
+    let s = sound t (c .before .before .before .before) _ (c .before .before .found2 .given .1) in
+    let p = c .before .before .before .before .before .before .pre in
     (omega (arith, p .0, p .1), (s, omega (arith, p .1)))
 
 walk-table-returns : (t : ℕ) → walk-table-lts.Need-returns (calls t) (walk-table-at t) walk-table.Post
@@ -204,11 +216,14 @@ walk-table-returns-4 t c =
 
 walk-table-returns-5 : (t : ℕ) → walk-table-lts.Need-returns-5 (calls t) (walk-table-at t) walk-table.Post
 walk-table-returns-5 t c =
-    let f = c .before .before in
+    let f = c .before .before .before in
     let k = f .before .before in
     let a = k .before .before .args in
     let v = f .found2 .given .0 .1 .0 in
-    c .walk-table .ensures ∙ rw (rights-step (a .all) (a .any) v) (told t k (look.Next (f .found2 .given .0 .0) v) (f .found2 .given .1))
+    let words = now (a .image) in
+    let lower : List ℕ → ℕ = λ i. packed (follow (tableAt i (a .base) (f .found2 .given .0 .0)) (a .level - 1 + 1) (λ u. walk (entry 52 true) (tableAt i (a .base)) (a .level - 1) u (rightsOver (bitAnd (a .all) v) (bitOr (a .any) v)) (a .page))) in
+    let e : c .walk-table .result ≡ lower (take (length words - 0) (drop 0 words)) = c .walk-table .ensures in
+    e ∙ ap lower (whole-part words) ∙ rw (rights-step (a .all) (a .any) v) (told t k (look.Next (f .found2 .given .0 .0) v) (f .found2 .given .1))
 
 pub +walk-table-spec : {M : Type 1} → statement M
 +walk-table-spec = close μ-walk-table λ t. walk-table-lts.spec (calls t)
@@ -237,6 +252,9 @@ pub +walk-table-spec : {M : Type 1} → statement M
     (walk-table-add-result-5 t)
     (walk-table-add-result-6 t)
     (walk-table-enum-known-found-2 t)
+    (walk-table-sub-whole t)
+    (walk-table-part-whole-start t)
+    (walk-table-part-whole-end t)
     (walk-table-walk-table-requires t)
     (walk-table-returns t)
     (walk-table-returns-2 t)
