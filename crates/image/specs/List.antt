@@ -1,4 +1,4 @@
--- A list of searches into lent words: "from a start page, the answers of successive searches".
+-- The answers of a list of searches, written into lent words.
 use Prim.Native.Nat.{ℕ, _+_, _/_}
 use mathlib.Core.Bool.{cond}
 use mathlib.Core.List.{List, [], _∷_, _++_}

@@ -5,11 +5,9 @@ use Rattle.image.proofs.found.half_end.Tie as tie
 use Rattle.image.proofs.found.half_end.Reads as reads
 use Rattle.image.proofs.found.half_end.Lts as lts
 
--- src/found.rt:47:1
 returns : tie.Need-returns
 returns c = simp (lt-ltb _ _ (c .if1 .taken))
 
--- src/found.rt:47:1
 returns-2 : tie.Need-returns-2
 returns-2 c = simp (le-ltb _ _ (c .if1 .left))
 

@@ -6,15 +6,12 @@ use Rattle.image.proofs.run_search.page_at.Reads as reads
 use Rattle.image.proofs.run_search.page_at.Lts as lts
 use Rattle.addr.proofs.width.Width.truncate.Reads as truncate-reads
 
--- src/run_search.rt:59:56
 mul-truncate : tie.Need-mul-truncate
 mul-truncate c = search needs
 
--- src/run_search.rt:59:33
 truncate-requires : tie.Need-truncate-requires
 truncate-requires c κs = search needs
 
--- src/run_search.rt:54:1
 returns : tie.Need-returns
 returns c = rw (c .truncate .ensures)
 
