@@ -1,4 +1,4 @@
-//! With the feature `library`, links the port as the crate `compare` does: libcabi.a from the
+//! With the feature `library`, links the port as the crate `compare` does: libwuohtan.a from the
 //! folder that WUOHTAN_LIB names, by default the repository's target/staticlib.
 
 use std::env;
@@ -12,14 +12,14 @@ fn main() {
     let own = PathBuf::from(env::var_os("CARGO_MANIFEST_DIR").expect("set by cargo"));
     let folder = env::var_os("WUOHTAN_LIB").unwrap_or_else(|| "../../target/staticlib".into());
     let folder = own.join(folder);
-    let library = folder.join("libcabi.a");
+    let library = folder.join("libwuohtan.a");
 
     println!("cargo::rerun-if-changed={}", library.display());
     if !library.is_file() {
         let place = library.display();
-        println!("cargo::error=there is no {place}: make it with `rt staticlib cabi`");
+        println!("cargo::error=there is no {place}: make it with `rt staticlib wuohtan`");
         return;
     }
     println!("cargo::rustc-link-search=native={}", folder.display());
-    println!("cargo::rustc-link-lib=static=cabi");
+    println!("cargo::rustc-link-lib=static=wuohtan");
 }

@@ -7,11 +7,11 @@ use lib.Dec.{eqb}
 use borrow.Author.Tests.{eqb-true, eq-eqb, ne-eqb, lt-ltb, le-ltb, le-leb, lt-leb}
 use Rattle.answer.specs.Outcome.{Outcome, gives, refuses, unless}
 use Rattle.answer.specs.Refusal.{overflow, sizesDiffer}
-use Rattle.addr.specs.Address.{Space, virt, phys}
+use Rattle.addr.specs.Address.{Addresses, virt, phys}
 use Rattle.addr.specs.Item.{item, givenItem, itemRefusal, plusItem, minusItem, givenItems, firstRefusal, itemsRefusal}
 use Rattle.addr.specs.Range.{refusedOr}
 
-module _ (s : Space) (a z : ℕ) where
+module _ (s : Addresses) (a z : ℕ) where
   -- another number refuses
   pub item-refused : {A : Type 0} (o : Outcome A) → (itemRefusal s a z ≡ 0 → ⊥) → refuses (itemRefusal s a z) ≡ givenItem s a z o
   unfolding itemRefusal
@@ -42,7 +42,7 @@ refused-or zero f d h = absurd (h refl)
 refused-or (suc k) f d h = refl
 
 -- the number for two items, by those for each: the first that is not 0
-module _ (s : Space) (a y b z : ℕ) where
+module _ (s : Addresses) (a y b z : ℕ) where
   pub items-first : (itemRefusal s a y ≡ 0 → ⊥) → itemRefusal s a y ≡ itemsRefusal s a y b z
   unfolding itemsRefusal
   items-first n = go (itemRefusal s a y) refl
@@ -69,7 +69,7 @@ module _ (s : Space) (a y b z : ℕ) where
     items-differ q d = simp (p, q, ne-eqb y z d)
 
 -- the ways through each call on items, for pages and frames alike. No space refuses with 0.
-module _ (s : Space) (n0 : s .argument ≡ 0 → ⊥) where
+module _ (s : Addresses) (n0 : s .argument ≡ 0 → ⊥) where
   -- an item that passes goes on to what follows
   pub item-given : {A : Type 0} (a z : ℕ) (o : Outcome A) → itemRefusal s a z ≡ 0 → o ≡ givenItem s a z o
   item-given a z o r = let p = item-passed s a z n0 r in simp (p .0, eq-eqb (a % z) 0 (p .1))

@@ -11,49 +11,49 @@ use Rattle.laws.specs.Index.{index, offset}
 use Rattle.addr.specs.Align.{alignDown, alignUp}
 
 -- which numbers are addresses, and the refusals of an argument and of a result that is none
-pub record Space : Type 0 where
+pub record Addresses : Type 0 where
   pub holds : ℕ → Bool
   pub argument : ℕ
   pub result : ℕ
 
 -- "1 a virtual number not canonical"; "6 if the virtual result isn't canonical"
-abbrev pub virt : ℕ → Space
+abbrev pub virt : ℕ → Addresses
 virt w = record { holds = canonical w; argument = notCanonical; result = resultNotCanonical }
 
 -- "2 a physical number of 2^52 or more"; "8 if the physical one is 2^52 or more"
-abbrev pub phys : ℕ → Space
+abbrev pub phys : ℕ → Addresses
 phys w = record { holds = λ a. ltb a (2 ^ w); argument = notPhysical; result = resultNotPhysical }
 
 -- "An argument that is no address .. is refused first, in argument order"; then what follows
-abbrev pub given : {A : Type 0} → Space → ℕ → Outcome A → Outcome A
+abbrev pub given : {A : Type 0} → Addresses → ℕ → Outcome A → Outcome A
 given s a o = unless (s .argument) (s .holds a) o
 
 -- "`try_new`: 1, or 2 for physical"; a number handed back as it is
-abbrev pub address : Space → ℕ → Outcome ℕ
+abbrev pub address : Addresses → ℕ → Outcome ℕ
 address s a = given s a (gives a)
 
-abbrev pub isNull : Space → ℕ → Outcome Bool
+abbrev pub isNull : Addresses → ℕ → Outcome Bool
 isNull s a = given s a (gives (eqb a 0))
 
 -- whether the address is a multiple of the alignment; 4 as for the alignments
-abbrev pub isAligned : Space → ℕ → ℕ → Outcome Bool
+abbrev pub isAligned : Addresses → ℕ → ℕ → Outcome Bool
 isAligned s a n = given s a (unless notPowerOfTwo (powerOfTwo n) (gives (eqb (a % n) 0)))
 
 -- "`+` and `-` with a count: 5 beyond 64 bits or below zero; then 6 .., 8 .."
-abbrev pub sum : Space → ℕ → ℕ → Outcome ℕ
+abbrev pub sum : Addresses → ℕ → ℕ → Outcome ℕ
 sum s a n = unless overflow (ltb (a + n) (2 ^ 64)) (unless (s .result) (s .holds (a + n)) (gives (a + n)))
 
-abbrev pub difference : Space → ℕ → ℕ → Outcome ℕ
+abbrev pub difference : Addresses → ℕ → ℕ → Outcome ℕ
 difference s a n = unless overflow (leb n a) (unless (s .result) (s .holds (a - n)) (gives (a - n)))
 
-abbrev pub plus : Space → ℕ → ℕ → Outcome ℕ
+abbrev pub plus : Addresses → ℕ → ℕ → Outcome ℕ
 plus s a n = given s a (sum s a n)
 
-abbrev pub minus : Space → ℕ → ℕ → Outcome ℕ
+abbrev pub minus : Addresses → ℕ → ℕ → Outcome ℕ
 minus s a n = given s a (difference s a n)
 
 -- "Address minus address: 5 below zero."
-abbrev pub distance : Space → ℕ → ℕ → Outcome ℕ
+abbrev pub distance : Addresses → ℕ → ℕ → Outcome ℕ
 distance s a b = given s a (given s b (unless overflow (leb b a) (gives (a - b))))
 
 -- "Virtual results are sign-extended as in the source"; 5 is tried "before sign extension"

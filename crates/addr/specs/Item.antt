@@ -6,7 +6,7 @@ use lib.Dec.{leb, eqb}
 use Rattle.answer.specs.Outcome.{Outcome, gives, unless, andThen}
 use Rattle.answer.specs.Refusal.{notAligned, overflow, sizesDiffer}
 use Rattle.laws.specs.Align.{down}
-use Rattle.addr.specs.Address.{Space, given, sum, difference}
+use Rattle.addr.specs.Address.{Addresses, given, sum, difference}
 
 -- a page or a frame: where it starts, and its size in bytes
 pub record Item : Type 0 where
@@ -17,37 +17,37 @@ abbrev pub item : ℕ → ℕ → Item
 item a z = record { start = a; bytes = z }
 
 -- a page or frame handed in: the refusal of its address, then "3 a start that is no multiple of its page size"; then what follows
-abbrev pub givenItem : {A : Type 0} → Space → ℕ → ℕ → Outcome A → Outcome A
+abbrev pub givenItem : {A : Type 0} → Addresses → ℕ → ℕ → Outcome A → Outcome A
 givenItem s a z o = given s a (unless notAligned (eqb (a % z) 0) o)
 
 -- the number with which an item handed in is refused, 0 for none
-unfoldable pub itemRefusal : Space → ℕ → ℕ → ℕ
+unfoldable pub itemRefusal : Addresses → ℕ → ℕ → ℕ
 itemRefusal s a z = cond (s .holds a) (cond (eqb (a % z) 0) 0 notAligned) (s .argument)
 
 -- "`from_start_address`: 3"
-abbrev pub fromStart : Space → ℕ → ℕ → Outcome Item
+abbrev pub fromStart : Addresses → ℕ → ℕ → Outcome Item
 fromStart s a z = givenItem s a z (gives (item a z))
 
 -- "`containing_address`, here and for frames, aligns down to the size."
-abbrev pub containing : Space → ℕ → ℕ → Outcome Item
+abbrev pub containing : Addresses → ℕ → ℕ → Outcome Item
 containing s a z = given s a (gives (item (down z a) z))
 
 -- the start and the size of an item
-abbrev pub startOf : Space → ℕ → ℕ → Outcome ℕ
+abbrev pub startOf : Addresses → ℕ → ℕ → Outcome ℕ
 startOf s a z = givenItem s a z (gives a)
 
-abbrev pub sizeOf : Space → ℕ → ℕ → Outcome ℕ
+abbrev pub sizeOf : Addresses → ℕ → ℕ → Outcome ℕ
 sizeOf s a z = givenItem s a z (gives z)
 
 -- "`+`, `-`: 5 if count × size or the sum passes 64 bits or goes below zero, then 8", for pages "then 6": as for addresses, `n` × `z` bytes on
-abbrev pub plusItem : Space → ℕ → ℕ → ℕ → Outcome Item
+abbrev pub plusItem : Addresses → ℕ → ℕ → ℕ → Outcome Item
 plusItem s a z n = givenItem s a z (andThen (sum s a (n * z)) (λ x. gives (item x z)))
 
-abbrev pub minusItem : Space → ℕ → ℕ → ℕ → Outcome Item
+abbrev pub minusItem : Addresses → ℕ → ℕ → ℕ → Outcome Item
 minusItem s a z n = givenItem s a z (andThen (difference s a (n * z)) (λ x. gives (item x z)))
 
 -- two items handed in: "7 if sizes differ"; then what follows
-abbrev pub givenItems : {A : Type 0} → Space → ℕ → ℕ → ℕ → ℕ → Outcome A → Outcome A
+abbrev pub givenItems : {A : Type 0} → Addresses → ℕ → ℕ → ℕ → ℕ → Outcome A → Outcome A
 givenItems s a y b z o = givenItem s a y (givenItem s b z (unless sizesDiffer (eqb y z) o))
 
 -- the number with which two items handed in are refused, 0 for none: the first that is not 0
@@ -55,9 +55,9 @@ abbrev pub firstRefusal : ℕ → ℕ → ℕ
 firstRefusal zero m = m
 firstRefusal (suc n) m = suc n
 
-unfoldable pub itemsRefusal : Space → ℕ → ℕ → ℕ → ℕ → ℕ
+unfoldable pub itemsRefusal : Addresses → ℕ → ℕ → ℕ → ℕ → ℕ
 itemsRefusal s a y b z = firstRefusal (itemRefusal s a y) (firstRefusal (itemRefusal s b z) (cond (eqb y z) 0 sizesDiffer))
 
 -- "Frame minus frame: 7 if sizes differ, then 5"; "Page minus page: 7, then 5"
-abbrev pub distanceItem : Space → ℕ → ℕ → ℕ → ℕ → Outcome ℕ
+abbrev pub distanceItem : Addresses → ℕ → ℕ → ℕ → ℕ → Outcome ℕ
 distanceItem s a y b z = givenItems s a y b z (unless overflow (leb b a) (gives ((a - b) / z)))

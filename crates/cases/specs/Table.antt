@@ -9,7 +9,7 @@ use Rattle.table.specs.declared.size.PageSize.the-variants.{Size4KiB}
 use Rattle.addr.specs.Item.{item}
 use Rattle.addr.specs.Range.{countBelow, countThrough}
 use Rattle.frame.specs.Frame.{pfnOf, fromPfn}
-use Rattle.page.specs.Range.{pageAtSize, nthOf, nthBackOf, nthInclusiveOf, nthBackInclusiveOf}
+use Rattle.page.specs.Range.{pageAt, nthOf, nthBackOf, nthInclusiveOf, nthBackInclusiveOf}
 use Rattle.page.specs.declared.page.Page as code
 use Rattle.page.specs.declared.page.PageAnswer.the-variants.{Page, Refused}
 use Rattle.page.specs.declared.range.PageRange.{PageRange}
@@ -17,7 +17,7 @@ use Rattle.page.specs.declared.range_inclusive.PageRangeInclusive.{PageRangeInc
 
 -- a 4 KiB page, and ranges of them
 abbrev pub page : ℕ → code.Page
-page a = pageAtSize Size4KiB a
+page a = pageAt Size4KiB a
 
 abbrev pub exclusive : ℕ → ℕ → PageRange
 exclusive a b = record { start = page a; end = page b }

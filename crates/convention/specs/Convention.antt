@@ -34,7 +34,7 @@ truth none = none
 truth (refuses k) = refuses k
 
 -- a page or a frame is told by its start: its size is the one that was handed in, or that the call's name says
-abbrev pub place : Outcome Item → Outcome (List ℕ)
-place (gives i) = gives (i .start ∷ [])
-place none = none
-place (refuses k) = refuses k
+abbrev pub startWord : Outcome Item → Outcome (List ℕ)
+startWord (gives i) = gives (i .start ∷ [])
+startWord none = none
+startWord (refuses k) = refuses k

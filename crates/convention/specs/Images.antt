@@ -16,12 +16,12 @@ use Rattle.image.specs.List.{Listed, Listing}
 use Rattle.convention.specs.Convention.{Left, left, leaves}
 
 abbrev pub translation : Outcome Translated → Outcome (List ℕ)
-translation (gives t) = gives (translate.wordsOf t)
+translation (gives t) = gives (translate.translatedWords t)
 translation none = none
 translation (refuses k) = refuses k
 
 abbrev pub report : Outcome Report → Outcome (List ℕ)
-report (gives r) = gives (search.wordsOf r)
+report (gives r) = gives (search.reportWords r)
 report none = none
 report (refuses k) = refuses k
 

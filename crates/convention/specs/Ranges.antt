@@ -16,7 +16,7 @@ use Rattle.frame.specs.declared.range_inclusive.PhysFrameRangeInclusive.{PhysFr
 use Rattle.page.specs.declared.range.PageRange.{PageRange}
 use Rattle.page.specs.declared.range_inclusive.PageRangeInclusive.{PageRangeInclusive}
 use Rattle.frame.specs.Range.{frameAt}
-use Rattle.page.specs.Range.{pageAtSize}
+use Rattle.page.specs.Range.{pageAt}
 use Rattle.convention.specs.Choice.{sizeWith}
 
 -- start and end
@@ -56,7 +56,7 @@ abbrev pub frameRangeInclusiveAt : ℕ → ℕ → ℕ → ℕ → PhysFrameRang
 frameRangeInclusiveAt a y b z = record { start = frameAt (sizeWith y) a; end = frameAt (sizeWith z) b }
 
 abbrev pub pageRangeAt : ℕ → ℕ → ℕ → ℕ → PageRange
-pageRangeAt a y b z = record { start = pageAtSize (sizeWith y) a; end = pageAtSize (sizeWith z) b }
+pageRangeAt a y b z = record { start = pageAt (sizeWith y) a; end = pageAt (sizeWith z) b }
 
 abbrev pub pageRangeInclusiveAt : ℕ → ℕ → ℕ → ℕ → PageRangeInclusive
-pageRangeInclusiveAt a y b z = record { start = pageAtSize (sizeWith y) a; end = pageAtSize (sizeWith z) b }
+pageRangeInclusiveAt a y b z = record { start = pageAt (sizeWith y) a; end = pageAt (sizeWith z) b }

@@ -19,7 +19,7 @@ ghost use Rattle.table.specs.Answers.{indexOf, offsetOf, levelAnswerOf};
 ghost use Rattle.addr.specs.Answers.{virtOf, physOf};
 ghost use Rattle.frame.specs.Frame.{frameOf};
 ghost use Rattle.page.specs.Page.{pageOf};
-ghost use Rattle.convention.specs.Convention.{left, leaves, word, truth, place};
+ghost use Rattle.convention.specs.Convention.{left, leaves, word, truth, startWord};
 
 // Stores one word.
 pub fn give(value: u64, out: &mut [u64]) -> u8
@@ -99,7 +99,7 @@ pub fn give_level(answer: LevelAnswer, out: &mut [u64]) -> u8
 }
 
 pub fn give_frame(answer: FrameAnswer, out: &mut [u64]) -> u8
-    ensures { λ r. ⌜ left r (now (out .exit)) ≡ leaves (place (frameOf answer)) (now (out .entry)) ⌝ }
+    ensures { λ r. ⌜ left r (now (out .exit)) ≡ leaves (startWord (frameOf answer)) (now (out .entry)) ⌝ }
 {
     match answer {
         FrameAnswer::Frame(f) => give(f.start_address.0, out),
@@ -109,7 +109,7 @@ pub fn give_frame(answer: FrameAnswer, out: &mut [u64]) -> u8
 }
 
 pub fn give_page(answer: PageAnswer, out: &mut [u64]) -> u8
-    ensures { λ r. ⌜ left r (now (out .exit)) ≡ leaves (place (pageOf answer)) (now (out .entry)) ⌝ }
+    ensures { λ r. ⌜ left r (now (out .exit)) ≡ leaves (startWord (pageOf answer)) (now (out .entry)) ⌝ }
 {
     match answer {
         PageAnswer::Page(p) => give(p.start_address.0, out),

@@ -10,7 +10,7 @@ use Rattle.laws.specs.Drawing.{Side, front, back, Drawn, EachOnce}
 use Rattle.laws.proofs.Cases.{by-cases}
 use Rattle.laws.proofs.Drawing.{each-once}
 use Rattle.table.specs.declared.size.PageSize.{PageSize}
-use Rattle.frame.specs.Range.{frameAnswer, nthOf, nthBackOf, nthInclusiveOf, nthBackInclusiveOf, given, framesOf, framesInclusiveOf, drawFrom, drawInclusiveFrom}
+use Rattle.frame.specs.Range.{frameAnswer, nthOf, nthBackOf, nthInclusiveOf, nthBackInclusiveOf, drawnOf, framesOf, framesInclusiveOf, drawFrom, drawInclusiveFrom}
 use Rattle.frame.specs.declared.frame.FrameAnswer.{FrameAnswer}
 use Rattle.frame.specs.declared.frame.FrameAnswer.the-variants as frame
 use Rattle.frame.specs.declared.range.PhysFrameRange.{PhysFrameRange}
@@ -19,18 +19,18 @@ use Rattle.frame.proofs.Ranges.{refusal, nth-refused, nth-settled, nth-
 use Rattle.frame.proofs.Left.{nth-left, nth-back-left, nth-inclusive-left, nth-back-inclusive-left}
 
 module _ {S : Type 0} (s : S) (d : Drawn S) where
-  given-left : (a : FrameAnswer) → given a s ≡ some d → d .left ≡ s
+  given-left : (a : FrameAnswer) → drawnOf a s ≡ some d → d .left ≡ s
   given-left (frame.Refused k) h = absurd (let z : _≡_ {A = ℕ} 0 1 = cc in omega arith)
   given-left frame.None h = cc
   given-left (frame.Frame f) h = cc
 
-  given-item : (z : PageSize) (x : Option ℕ) → given (frameAnswer z x) s ≡ some d → d .item ≡ x
+  given-item : (z : PageSize) (x : Option ℕ) → drawnOf (frameAnswer z x) s ≡ some d → d .item ≡ x
   unfolding frameAnswer
   given-item z none h = cc
   given-item z (some a) h = cc
 
   -- a draw that is not refused, by the ways through it: its range is accepted, and it gives `x`
-  not-refused : (k : ℕ) (a : FrameAnswer) (z : PageSize) (x : Option ℕ) → ((k ≡ 0 → ⊥) → frame.Refused k ≡ a) → (k ≡ 0 → frameAnswer z x ≡ a) → given a s ≡ some d
+  not-refused : (k : ℕ) (a : FrameAnswer) (z : PageSize) (x : Option ℕ) → ((k ≡ 0 → ⊥) → frame.Refused k ≡ a) → (k ≡ 0 → frameAnswer z x ≡ a) → drawnOf a s ≡ some d
       → (k ≡ 0) × (d .item ≡ x) × (d .left ≡ s)
   not-refused k a z x f g h =
       by-cases (ℕ-discrete k 0) (λ e. (e, given-item z x (rw (← g e) at h), given-left a h))

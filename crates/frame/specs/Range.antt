@@ -103,16 +103,16 @@ abbrev pub framesInclusiveOf : PhysFrameRangeInclusive → List ℕ
 framesInclusiveOf r = through (start (r .start)) (start (r .end)) (bytes (r .start))
 
 -- a draw as what it gives and the range left, `s`; none where it is refused
-abbrev pub given : {S : Type 0} → FrameAnswer → S → Option (Drawn S)
-given (frame.Refused k) s = none
-given frame.None s = some (record { item = none; left = s })
-given (frame.Frame f) s = some (record { item = some (start f); left = s })
+abbrev pub drawnOf : {S : Type 0} → FrameAnswer → S → Option (Drawn S)
+drawnOf (frame.Refused k) s = none
+drawnOf frame.None s = some (record { item = none; left = s })
+drawnOf (frame.Frame f) s = some (record { item = some (start f); left = s })
 
 -- `next` and `next_back`
 abbrev pub drawFrom : Side → PhysFrameRange → Option (Drawn PhysFrameRange)
-drawFrom front r = given (nthOf r 0 .answer) (nthOf r 0 .range)
-drawFrom back r = given (nthBackOf r 0 .answer) (nthBackOf r 0 .range)
+drawFrom front r = drawnOf (nthOf r 0 .answer) (nthOf r 0 .range)
+drawFrom back r = drawnOf (nthBackOf r 0 .answer) (nthBackOf r 0 .range)
 
 abbrev pub drawInclusiveFrom : Side → PhysFrameRangeInclusive → Option (Drawn PhysFrameRangeInclusive)
-drawInclusiveFrom front r = given (nthInclusiveOf r 0 .answer) (nthInclusiveOf r 0 .range)
-drawInclusiveFrom back r = given (nthBackInclusiveOf r 0 .answer) (nthBackInclusiveOf r 0 .range)
+drawInclusiveFrom front r = drawnOf (nthInclusiveOf r 0 .answer) (nthInclusiveOf r 0 .range)
+drawInclusiveFrom back r = drawnOf (nthBackInclusiveOf r 0 .answer) (nthBackInclusiveOf r 0 .range)

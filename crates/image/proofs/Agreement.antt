@@ -27,7 +27,7 @@ use Rattle.addr.specs.Item.{givenItem}
 use Rattle.image.specs.Entry.{entry}
 use Rattle.image.specs.Memory.{tableAt}
 use Rattle.image.specs.Translate.{Translated, translated, givenImage, imageRefusal, pageNumber, translation}
-use Rattle.image.specs.Search.{Report, report, pagesOf, searching}
+use Rattle.image.specs.Search.{Report, report, imagePages, searching}
 use Rattle.addr.specs.declared.width.Width.the-variants.{Bits48}
 use Rattle.addr.proofs.Widths.{widths}
 use Rattle.image.specs.Agreement.{stateIn, translatedPages, answerIn, replyIn, callFrom, RunsAgree}
@@ -74,7 +74,7 @@ module _ (w levels : ℕ) (v : IsWidth w) (e : w ≡ 9 * levels + 12) where
     walked n = walk (entry 52 true) (tableAt image base) levels t allRights n
 
     abbrev pages : Space
-    pages = pagesOf levels image base t
+    pages = imagePages levels image base t
 
     page-state : (n : ℕ) → stateIn (translation w levels image base root (start w 4096 n)) ≡ stateOf (walked n)
     unfolding translation
@@ -93,7 +93,7 @@ module _ (w levels : ℕ) (v : IsWidth w) (e : w ≡ 9 * levels + 12) where
     unfolding searching
     call-answered n h =
         let a = start w 4096 n in
-        ap (replyIn w) (given-image Report (λ u. givenItem (virt w) a 0x1000 (gives (report w (search (pagesOf levels image base u) (pageNumber w a))))))
+        ap (replyIn w) (given-image Report (λ u. givenItem (virt w) a 0x1000 (gives (report w (search (imagePages levels image base u) (pageNumber w a))))))
         ∙ rw (sign-canonical w v (n * 4096), eq-eqb (a % 4096) 0 (start-whole n)) refl
         ∙ ap (λ (x : ℕ). answered (answerIn w (report w (search pages x)))) (number-back n h)
         ∙ ap answered (read-back (search pages n) (page-below (finds pages (spanned (entry 52 true) (tableAt image base) levels t .halves) n (omega arith)) refl))

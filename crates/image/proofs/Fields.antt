@@ -1,25 +1,25 @@
 -- What an entry's word says, by its fields, at the physical width 52 with no-execute on.
 use Prim.Native.Nat.{ℕ, _+_, _-_, _*_, _/_, _%_, _^_, _≤_, _<_}
 use mathlib.Core.Path.{_≡_, refl, ap, _∙_}
-use mathlib.Core.Bool.{Bool, true, false, cond}
+use mathlib.Core.Bool.{true, false, and-false}
 use native.Mathlib.Omega.{arith}
 use native.Mathlib.Nat.{mod-one, mul-one}
 use lib.Dec.{eqb, leb}
 use lib.Pow.{field, shr-shr, mod-mod-pow, mod-pow-add}
 use borrow.Author.Tests.{eq-eqb, ne-eqb, le-leb, lt-leb}
-use Rattle.mapping.specs.Walk.{notPresent, reservedBit, maps, table, pagesOf}
+use Rattle.mapping.specs.Walk.{notPresent, reservedBit, maps, table, spanPages}
 use Rattle.image.specs.Entry.{set, rightsOf, firstFrame, tableAddress, entry}
 
 -- how far a frame is into the span of an entry of level `n` + 1
 module _ (n v : ℕ) (h : 1 ≤ n) (k : n ≤ 4) where
-  rest-low : v / 2 ^ 12 % 2 ^ 40 % pagesOf n ≡ v / 2 ^ 12 % pagesOf n
+  rest-low : v / 2 ^ 12 % 2 ^ 40 % spanPages n ≡ v / 2 ^ 12 % spanPages n
   rest-low =
       let e : 40 - 9 * n + 9 * n ≡ 40 = omega arith in
       let f : v / 2 ^ 12 % 2 ^ (40 - 9 * n + 9 * n) % 2 ^ (9 * n) ≡ v / 2 ^ 12 % 2 ^ (9 * n) = mod-mod-pow (v / 2 ^ 12) (40 - 9 * n) (9 * n) in
       rw e at f
 
   -- the bits that a large entry reserves are half of it
-  rest-half : v / 2 ^ 12 % 2 ^ 40 % pagesOf n / 2 ≡ v / 2 ^ 13 % 2 ^ (9 * n - 1)
+  rest-half : v / 2 ^ 12 % 2 ^ 40 % spanPages n / 2 ≡ v / 2 ^ 13 % 2 ^ (9 * n - 1)
   rest-half =
       let e : 9 * n - 1 + 1 ≡ 9 * n = omega arith in
       let f : v / 2 ^ 12 % 2 ^ (9 * n - 1 + 1) / 2 ^ 1 ≡ v / 2 ^ 12 / 2 ^ 1 % 2 ^ (9 * n - 1) = field (v / 2 ^ 12) (9 * n - 1) 1 in
@@ -27,17 +27,13 @@ module _ (n v : ℕ) (h : 1 ≤ n) (k : n ≤ 4) where
       rw rest-low (g ∙ ap (λ (x : ℕ). x % 2 ^ (9 * n - 1)) (shr-shr v 12 1))
 
   -- the first frame is the frame without it
-  rest-first : v / 2 ^ 12 % 2 ^ 40 ≡ firstFrame (n + 1) v + v / 2 ^ 12 % 2 ^ 40 % pagesOf n
+  rest-first : v / 2 ^ 12 % 2 ^ 40 ≡ firstFrame (n + 1) v + v / 2 ^ 12 % 2 ^ 40 % spanPages n
   rest-first =
       let e : 40 - 9 * n + 9 * n ≡ 40 = omega arith in
       let d : n + 1 - 1 ≡ n = omega arith in
       let f : v / 2 ^ 12 % 2 ^ (40 - 9 * n + 9 * n) ≡ v / 2 ^ 12 / 2 ^ (9 * n) % 2 ^ (40 - 9 * n) * 2 ^ (9 * n) + v / 2 ^ 12 % 2 ^ (9 * n)
       = mod-pow-add (v / 2 ^ 12) (40 - 9 * n) (9 * n) in
       rw (rest-low, d) (rw (e, shr-shr v 12 (9 * n)) at f)
-
-neither : (b : Bool) → cond b false false ≡ false
-neither true = refl
-neither false = refl
 
 -- the entry, by what the code tests
 module _ (v : ℕ) where
@@ -58,10 +54,10 @@ module _ (v : ℕ) where
     unfolding entry
     entry-table q =
         let e : eqb (n + 1) 1 ≡ false = ne-eqb (n + 1) 1 (λ z. omega arith) in
-        simp (p, q, mod-one, neither, e)
+        simp (p, q, mod-one, and-false, e)
 
     module _ (k : n ≤ 2) (q : set 7 v ≡ true) where
-      pub entry-large : v / 2 ^ 12 % 2 ^ 40 % pagesOf n < 2 → entry 52 true (n + 1) v ≡ maps (v / 2 ^ 12 % 2 ^ 40 - v / 2 ^ 12 % 2 ^ 40 % pagesOf n) (rightsOf v)
+      pub entry-large : v / 2 ^ 12 % 2 ^ 40 % spanPages n < 2 → entry 52 true (n + 1) v ≡ maps (v / 2 ^ 12 % 2 ^ 40 - v / 2 ^ 12 % 2 ^ 40 % spanPages n) (rightsOf v)
       unfolding entry
       entry-large r =
           let a : leb 4 (n + 1) ≡ false = lt-leb 4 (n + 1) (omega arith) in
@@ -70,11 +66,11 @@ module _ (v : ℕ) where
           let d : n + 1 - 1 ≡ n = omega arith in
           let z : eqb (v / 2 ^ 13 % 2 ^ (9 * n - 1)) 0 ≡ true = eq-eqb (v / 2 ^ 13 % 2 ^ (9 * n - 1)) 0 (omega (arith, rest-half n v h (omega arith))) in
           let e : eqb (n + 1) 1 ≡ false = ne-eqb (n + 1) 1 (λ z. omega arith) in
-          let f : firstFrame (n + 1) v ≡ v / 2 ^ 12 % 2 ^ 40 - v / 2 ^ 12 % 2 ^ 40 % pagesOf n = omega (arith, rest-first n v h (omega arith)) in
+          let f : firstFrame (n + 1) v ≡ v / 2 ^ 12 % 2 ^ 40 - v / 2 ^ 12 % 2 ^ 40 % spanPages n = omega (arith, rest-first n v h (omega arith)) in
           let g = rw d at f in
           simp (p, q, mod-one, a, b, c, d, z, e, g)
 
-      pub entry-reserved : (v / 2 ^ 12 % 2 ^ 40 % pagesOf n < 2 → ⊥) → entry 52 true (n + 1) v ≡ reservedBit
+      pub entry-reserved : (v / 2 ^ 12 % 2 ^ 40 % spanPages n < 2 → ⊥) → entry 52 true (n + 1) v ≡ reservedBit
       unfolding entry
       entry-reserved r =
           let b : leb 2 (n + 1) ≡ true = le-leb 2 (n + 1) (omega arith) in

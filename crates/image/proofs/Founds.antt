@@ -8,7 +8,7 @@ use Rattle.answer.specs.Outcome.{Outcome, gives}
 use Rattle.image.specs.Packed.{rightsBits, rightsFrom}
 use Rattle.image.specs.Search.{Report, report, pageItem, frameItem}
 use Rattle.image.specs.Search as reports
-use Rattle.image.specs.Found.{foundOf, Kept, Answers, pageAfter}
+use Rattle.image.specs.Found.{foundOf, Kept, OfAnswer, pageAfter}
 use Rattle.image.specs.declared.found.Found.{Found}
 use Rattle.image.proofs.RightsBits.{bits-from}
 
@@ -56,7 +56,7 @@ module _ (f : Found) (a : Answer) (e : f ≡ foundOf a) where
       go (stopped-outside z) = refl
 
 -- the bounds of its numbers, by its kind
-module _ (f : Found) (p : Answers f) where
+module _ (f : Found) (p : OfAnswer f) where
   pub run-bounds : f .kind ≡ 1 → (f .page < 2 ^ 36) × (f .place < 2 ^ 40) × (f .page + f .count ≤ 2 ^ 36)
   run-bounds k = go (kinds f (p .0) (p .2)) (p .1)
     where

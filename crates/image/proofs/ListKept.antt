@@ -13,7 +13,7 @@ use Rattle.mapping.proofs.Walk.{broken-span, spanned}
 use Rattle.image.specs.Entry.{entry}
 use Rattle.image.specs.Memory.{tableAt}
 use Rattle.image.specs.Packed.{Fits}
-use Rattle.image.specs.Search.{pagesOf}
+use Rattle.image.specs.Search.{imagePages}
 use Rattle.image.specs.Found.{Kept, pageAfter}
 use Rattle.image.proofs.Walked.{fits}
 
@@ -24,7 +24,7 @@ KeptState (page.broken l r) = (1 ≤ l) × (l ≤ 4)
 KeptState (page.mapped g h) = g < 2 ^ 40
 
 module _ (image : List ℕ) (base : ℕ) (t : List ℕ) where
-  kept-state : (x : ℕ) → KeptState (pagesOf 4 image base t .page x)
+  kept-state : (x : ℕ) → KeptState (imagePages 4 image base t .page x)
   kept-state x = go (walk (entry 52 true) (tableAt image base) 4 t allRights x) refl (fits (tableAt image base) 4 t allRights x (omega arith))
     where
       go : (w : Walked) → walk (entry 52 true) (tableAt image base) 4 t allRights x ≡ w → Fits w → KeptState (stateOf w)
@@ -32,11 +32,11 @@ module _ (image : List ℕ) (base : ℕ) (t : List ℕ) where
       go (broken l r) e f = let s = broken-span (entry 52 true) (tableAt image base) 4 t allRights x l r e in omega arith
       go (mapped g l h) e f = f .2
 
-  pub kept : (p : ℕ) → p ≤ 2 ^ 36 → Kept (search (pagesOf 4 image base t) p)
+  pub kept : (p : ℕ) → p ≤ 2 ^ 36 → Kept (search (imagePages 4 image base t) p)
   kept p i = go (finds s (spanned (entry 52 true) (tableAt image base) 4 t .halves) p i)
     where
       s : Space
-      s = pagesOf 4 image base t
+      s = imagePages 4 image base t
 
       go : {a : Answer} → Found s p a → Kept a
       go (no-more z) = tt
@@ -47,7 +47,7 @@ module _ (image : List ℕ) (base : ℕ) (t : List ℕ) where
           (fr .inside, k, omega arith)
 
   -- the next page that an answer leaves is the one of the space
-  pub page-after : (a : Answer) → pageAfter a ≡ next (pagesOf 4 image base t) a
+  pub page-after : (a : Answer) → pageAfter a ≡ next (imagePages 4 image base t) a
   unfolding next
   page-after end = refl
   page-after (stop q l r) = refl

@@ -15,7 +15,7 @@ use Rattle.mapping.specs.Search.{Answer, search, next, answersFrom, leftAfter}
 use Rattle.mapping.proofs.Found.{finds}
 use Rattle.mapping.proofs.Steps.{forward, next-inside}
 use Rattle.mapping.proofs.Some.{one-more, left-more, none-more, left-over, answers-add, left-add}
-use Rattle.image.specs.Search.{pageItem, report, wordsOf}
+use Rattle.image.specs.Search.{pageItem, report, reportWords}
 use Rattle.image.specs.List.{allWords, room, settled}
 use Rattle.image.proofs.ListWords.{all-length, all-append}
 
@@ -52,7 +52,7 @@ module _ {s : Space} {p : ℕ} {lent out : List ℕ} {x written used : ℕ} (tur
         answers-add s written 1 p
         ∙ ap (λ (l : List Answer). answersFrom s written p ++ l) (ap (answersFrom s 1) (turn .left) ∙ one-more s 0 x i)
 
-    pub next-turn : (out′ : List ℕ) → used + 5 ≤ length lent → out′ ≡ take used out ++ (wordsOf (report 48 (search s x)) ++ drop (used + 5) out)
+    pub next-turn : (out′ : List ℕ) → used + 5 ≤ length lent → out′ ≡ take used out ++ (reportWords (report 48 (search s x)) ++ drop (used + 5) out)
         → Turn s p lent out′ (next s (search s x)) (written + 1) (used + 5)
     unfolding leftAfter allWords
     next-turn out′ h e =
@@ -62,9 +62,9 @@ module _ {s : Space} {p : ℕ} {lent out : List ℕ} {x written used : ℕ} (tur
         = sym (drop-drop 5 used out)
         ∙ ap (drop 5) (ap (drop used) (turn .words) ∙ drop-at (allWords 48 (answersFrom s written p)) (drop used lent) used words-used)
         ∙ drop-drop 5 used lent in
-        let all : allWords 48 (answersFrom s (written + 1) p) ≡ allWords 48 (answersFrom s written p) ++ wordsOf (report 48 (search s x))
+        let all : allWords 48 (answersFrom s (written + 1) p) ≡ allWords 48 (answersFrom s written p) ++ reportWords (report 48 (search s x))
         = ap (allWords 48) one ∙ all-append (answersFrom s written p) (search s x ∷ [])
-        ∙ ap (λ (l : List ℕ). allWords 48 (answersFrom s written p) ++ l) (append-nil (wordsOf (report 48 (search s x)))) in
+        ∙ ap (λ (l : List ℕ). allWords 48 (answersFrom s written p) ++ l) (append-nil (reportWords (report 48 (search s x)))) in
         record {
           five-each = omega (arith, turn .five-each);
           has-room = h;
@@ -74,7 +74,7 @@ module _ {s : Space} {p : ℕ} {lent out : List ℕ} {x written used : ℕ} (tur
           words =
               e
               ∙ rw (before, after, all)
-              (sym (append-assoc (allWords 48 (answersFrom s written p)) (wordsOf (report 48 (search s x))) (drop (used + 5) lent)));
+              (sym (append-assoc (allWords 48 (answersFrom s written p)) (reportWords (report 48 (search s x))) (drop (used + 5) lent)));
         }
 
   -- where as many have room

@@ -9,14 +9,14 @@ use Rattle.laws.specs.Number.{start}
 use Rattle.laws.specs.Width.{signExtend}
 use Rattle.mapping.specs.Pages.{reserved, outside}
 use Rattle.mapping.specs.Search.{Answer, end, stop, run}
-use Rattle.image.specs.Search.{report, wordsOf}
+use Rattle.image.specs.Search.{report, reportWords}
 use Rattle.image.specs.Found.{foundOf}
 use Rattle.image.specs.declared.found.Found.{Found}
 use Rattle.image.specs.List.{allWords}
 
 -- the five words: `x` the page's address, `n` the address of a run's frame or a stop's level
 pub five-words : (f : Found) (a : Answer) (x n : ℕ) → f ≡ foundOf a → x ≡ start 48 4096 (f .page) → (f .kind ≡ 1 → n ≡ f .place * 4096)
-    → ((f .kind ≡ 1 → ⊥) → n ≡ f .place) → f .kind ∷ x ∷ n ∷ f .count ∷ f .rights ∷ [] ≡ wordsOf (report 48 a)
+    → ((f .kind ≡ 1 → ⊥) → n ≡ f .place) → f .kind ∷ x ∷ n ∷ f .count ∷ f .rights ∷ [] ≡ reportWords (report 48 a)
 unfolding foundOf signExtend
 five-words f end x n e p y z =
     let m : n ≡ 0 = rw e at (z (λ k. let o : _≡_ {A = ℕ} 0 1 = rw e at k in omega arith)) in
@@ -44,7 +44,7 @@ five-stores out i a b c d e h =
     (sets-eq (a ∷ b ∷ c ∷ d ∷ e ∷ []) out i h ∙ append-assoc (take i out) (a ∷ b ∷ c ∷ d ∷ e ∷ []) (drop (i + 5) out))
 
 -- five words for each
-words-length : (a : Answer) → length (wordsOf (report 48 a)) ≡ 5
+words-length : (a : Answer) → length (reportWords (report 48 a)) ≡ 5
 words-length end = refl
 words-length (stop q l reserved) = refl
 words-length (stop q l outside) = refl
@@ -53,10 +53,10 @@ words-length (run q g c h) = refl
 pub all-length : (l : List Answer) → length (allWords 48 l) ≡ 5 * length l
 unfolding allWords
 all-length [] = refl
-all-length (a ∷ l) = length-append (wordsOf (report 48 a)) (allWords 48 l) ∙ omega (arith, words-length a, all-length l)
+all-length (a ∷ l) = length-append (reportWords (report 48 a)) (allWords 48 l) ∙ omega (arith, words-length a, all-length l)
 
 pub all-append : (l m : List Answer) → allWords 48 (l ++ m) ≡ allWords 48 l ++ allWords 48 m
 unfolding allWords
 all-append [] m = refl
 all-append (a ∷ l) m =
-    ap (λ (r : List ℕ). wordsOf (report 48 a) ++ r) (all-append l m) ∙ sym (append-assoc (wordsOf (report 48 a)) (allWords 48 l) (allWords 48 m))
+    ap (λ (r : List ℕ). reportWords (report 48 a) ++ r) (all-append l m) ∙ sym (append-assoc (reportWords (report 48 a)) (allWords 48 l) (allWords 48 m))

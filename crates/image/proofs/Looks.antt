@@ -1,7 +1,7 @@
 -- The walk at a page by what one table says of it, and which answers a table can give.
 use Prim.Native.Nat.{ℕ, suc, _+_, _-_, _*_, _/_, _%_, _^_, _≤_}
 use mathlib.Core.Path.{_≡_, refl, ap, _∙_}
-use mathlib.Core.Bool.{Bool, true, false, cond}
+use mathlib.Core.Bool.{Bool, true, false, cond, _&&_, _||_}
 use mathlib.Core.List.{List}
 use mathlib.Core.Option.{Option, none, some}
 use native.Mathlib.Omega.{arith}
@@ -11,8 +11,8 @@ use lib.Dec.{eqb, leb}
 use lib.Pow.{pow-pos, pow-add}
 use borrow.Author.Tests.{eqb-true, eqb-false, leb-true}
 use Rattle.mapping.specs.Pages.{Rights, reserved, outside}
-use Rattle.mapping.specs.Walk.{notPresent, reservedBit, maps, table, Walked, absent, broken, mapped, joined, pagesOf, follow, step, walk}
-use Rattle.image.specs.Entry.{set, rightsOf, or, and, large, reserves, firstFrame, tableAddress, entry}
+use Rattle.mapping.specs.Walk.{notPresent, reservedBit, maps, table, Walked, absent, broken, mapped, joined, spanPages, follow, step, walk}
+use Rattle.image.specs.Entry.{set, rightsOf, large, reserves, firstFrame, tableAddress, entry}
 use Rattle.image.specs.Look.{wordFor, seen, lookIn}
 use Rattle.image.specs.declared.look.Look.{Look}
 use Rattle.image.specs.declared.look.Look.the-variants as look
@@ -22,11 +22,11 @@ abbrev pub reads : (memory : ℕ → Option (List ℕ)) → (n : ℕ) → Rights
 reads memory n r x look.Outside = broken (n + 2) outside
 reads memory n r x look.Absent = absent (n + 1)
 reads memory n r x look.Reserved = broken (n + 1) reserved
-reads memory n r x (look.Leaf g v) = mapped (g + x % pagesOf n) (n + 1) (joined r (rightsOf v))
+reads memory n r x (look.Leaf g v) = mapped (g + x % spanPages n) (n + 1) (joined r (rightsOf v))
 reads memory n r x (look.Next a v) = follow (memory a) (n + 1) (λ t. walk (entry 52 true) memory n t (joined r (rightsOf v)) x)
 
 -- pages under one entry are read alike
-pub look-same : (o : Option (List ℕ)) (n x y : ℕ) → y / pagesOf n ≡ x / pagesOf n → lookIn o n y ≡ lookIn o n x
+pub look-same : (o : Option (List ℕ)) (n x y : ℕ) → y / spanPages n ≡ x / spanPages n → lookIn o n y ≡ lookIn o n x
 unfolding lookIn
 look-same none n x y e = refl
 look-same (some t) n x y e = rw e
@@ -48,7 +48,7 @@ module _ (memory : ℕ → Option (List ℕ)) (n : ℕ) (r : Rights) (x : ℕ) w
   walk-words t =
       let v = wordFor t n x in
       ap (λ (k : ℕ). walk (entry 52 true) memory k t r x) (add-one n)
-      ∙ by-entry v (firstFrame (n + 1) v) (tableAddress v) (set 0 v) (reserves 52 true (n + 1) v) (or (eqb (n + 1) 1) (large (n + 1) v))
+      ∙ by-entry v (firstFrame (n + 1) v) (tableAddress v) (set 0 v) (reserves 52 true (n + 1) v) (eqb (n + 1) 1 || large (n + 1) v)
 
   -- the page by the table at an address
   pub walk-look : (a : ℕ) → follow (memory a) (n + 2) (λ t. walk (entry 52 true) memory (n + 1) t r x) ≡ reads memory n r x (lookIn (memory a) n x)
@@ -72,11 +72,11 @@ abbrev pub Sound : ℕ → Look → Type 0
 Sound n look.Outside = Unit {0}
 Sound n look.Absent = Unit {0}
 Sound n look.Reserved = Unit {0}
-Sound n (look.Leaf g v) = (n ≤ 2) × (g + pagesOf n ≤ 2 ^ 40)
+Sound n (look.Leaf g v) = (n ≤ 2) × (g + spanPages n ≤ 2 ^ 40)
 Sound n (look.Next a v) = 1 ≤ n
 
 -- the frames of an entry are below 2^40
-first-frame : (n v : ℕ) → n ≤ 2 → firstFrame (n + 1) v + pagesOf n ≤ 2 ^ 40
+first-frame : (n v : ℕ) → n ≤ 2 → firstFrame (n + 1) v + spanPages n ≤ 2 ^ 40
 first-frame n v h =
     let k = 40 - 9 * n in
     let q = v / 2 ^ (12 + 9 * n) % 2 ^ k in
@@ -88,21 +88,21 @@ first-frame n v h =
 
 sound-entry : (n v : ℕ) → Sound n (seen v (entry 52 true (n + 1) v))
 unfolding entry
-sound-entry n v = go (set 0 v) (reserves 52 true (n + 1) v) (or (eqb (n + 1) 1) (large (n + 1) v)) maps-at table-at
+sound-entry n v = go (set 0 v) (reserves 52 true (n + 1) v) (eqb (n + 1) 1 || large (n + 1) v) maps-at table-at
   where
-    maps-at : or (eqb (n + 1) 1) (large (n + 1) v) ≡ true → n ≤ 2
+    maps-at : (eqb (n + 1) 1 || large (n + 1) v) ≡ true → n ≤ 2
     maps-at = by (eqb (n + 1) 1) refl (leb 2 (n + 1)) (leb (n + 1) 3) refl (set 7 v)
       where
-        by : (p : Bool) → eqb (n + 1) 1 ≡ p → (q u : Bool) → leb (n + 1) 3 ≡ u → (z : Bool) → or p (and (and q u) z) ≡ true → n ≤ 2
+        by : (p : Bool) → eqb (n + 1) 1 ≡ p → (q u : Bool) → leb (n + 1) 3 ≡ u → (z : Bool) → (p || (q && u && z)) ≡ true → n ≤ 2
         by true e q u f z m = omega (arith, eqb-true (n + 1) 1 e)
         by false e true true f z m = omega (arith, leb-true (n + 1) 3 f)
         by false e true false f z m = let i : _≡_ {A = ℕ} 0 1 = cc in omega arith
         by false e false u f z m = let i : _≡_ {A = ℕ} 0 1 = cc in omega arith
 
-    table-at : or (eqb (n + 1) 1) (large (n + 1) v) ≡ false → 1 ≤ n
+    table-at : (eqb (n + 1) 1 || large (n + 1) v) ≡ false → 1 ≤ n
     table-at = by (eqb (n + 1) 1) refl (large (n + 1) v)
       where
-        by : (p : Bool) → eqb (n + 1) 1 ≡ p → (z : Bool) → or p z ≡ false → 1 ≤ n
+        by : (p : Bool) → eqb (n + 1) 1 ≡ p → (z : Bool) → (p || z) ≡ false → 1 ≤ n
         by true e z m = let i : _≡_ {A = ℕ} 0 1 = cc in omega arith
         by false e z m = let d : (n + 1 ≡ 1) → ⊥ = eqb-false (n + 1) 1 e in omega arith
 

@@ -19,7 +19,7 @@ use Rattle.image.specs.Entry.{entry}
 use Rattle.image.specs.Memory.{tableAt}
 use Rattle.image.specs.Packed.{rightsFrom, rightsOver, packed}
 use Rattle.image.specs.Scan.{pagesBy, wanted}
-use Rattle.image.specs.Search.{pagesOf}
+use Rattle.image.specs.Search.{imagePages}
 use Rattle.image.specs.Span.{after}
 use Rattle.image.proofs.Scans.{wanted-line}
 use Rattle.image.proofs.Walked.{fits, unpacked, unpack}
@@ -58,7 +58,7 @@ walked image base t = walk (entry 52 true) (tableAt image base) 4 t allRights
 
 module _ (image : List ℕ) (base root : ℕ) (t : List ℕ) (h : tableAt image base root ≡ some t) where
   abbrev pages : ℕ → PageState
-  pages = pagesOf 4 image base t .page
+  pages = imagePages 4 image base t .page
 
   below-root : (w : ℕ → PageState) (k x : ℕ) → first (byRoot image base root) w k x ≡ first pages w k x
   below-root w k x =
@@ -71,7 +71,7 @@ module _ (image : List ℕ) (base root : ℕ) (t : List ℕ) (h : tableAt image 
 
   -- the scan for the end of a run
   pub run-end : (x g b n : ℕ) → x < 2 ^ 36 → b < 8 → n ≡ first (byRoot image base root) (wanted x g b) (after 4 x - x) x
-      → min n (halfOf x) ≡ first pages (line x g (rightsFrom b)) (halfEnd (pagesOf 4 image base t) x - x) x
+      → min n (halfOf x) ≡ first pages (line x g (rightsFrom b)) (halfEnd (imagePages 4 image base t) x - x) x
   unfolding halfEnd
   run-end x g b n i c e =
       let o = in-own-half x i in

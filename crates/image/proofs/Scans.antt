@@ -15,7 +15,7 @@ use lib.Pow.{pow-pos}
 use Rattle.laws.proofs.Cases.{by-cases}
 use Rattle.mapping.specs.Pages.{Rights, Reason, PageState, absent, broken, mapped}
 use Rattle.mapping.specs.Search.{first, nothing, line}
-use Rattle.mapping.specs.Walk.{pagesOf, stateOf}
+use Rattle.mapping.specs.Walk.{spanPages, stateOf}
 use Rattle.mapping.proofs.First.{first-all, first-other, first-congr, first-le}
 use Rattle.mapping.proofs.Spans.{go-on, found-inside}
 use Rattle.image.specs.Look.{lookIn}
@@ -32,9 +32,9 @@ pub ahead-of : (n x : ℕ) → x < after n x
 unfolding after
 ahead-of n x = rw (add-one, suc-mul) (lt-div-mul-add (pow-pos (9 * n)))
 
-same-entry : (n x y : ℕ) → x ≤ y → y < after n x → y / pagesOf n ≡ x / pagesOf n
+same-entry : (n x y : ℕ) → x ≤ y → y < after n x → y / spanPages n ≡ x / spanPages n
 unfolding after
-same-entry n x y a b = div-eq-of-lt-le (pagesOf n) (le-trans (div-mul-le-self x (pagesOf n)) a) b
+same-entry n x y a b = div-eq-of-lt-le (spanPages n) (le-trans (div-mul-le-self x (spanPages n)) a) b
 
 -- an entry's span ends no later than its table's
 nested : (n p x : ℕ) → n ≤ 3 → x < after (suc n) p → after n x ≤ after (suc n) p
@@ -133,7 +133,7 @@ pub record Turn (s : Query) (n x next e : ℕ) : Type 0 where
   pub ahead : x < next
   pub inside : next ≤ e
   pub top : e ≤ 2 ^ 36
-  pub same : (y : ℕ) → x ≤ y → y < next → y / pagesOf n ≡ x / pagesOf n
+  pub same : (y : ℕ) → x ≤ y → y < next → y / spanPages n ≡ x / spanPages n
 
 pub turn : (s : Query) (n x next e : ℕ) → s .level ≡ n + 1 → n ≤ 3 → s .from < 2 ^ 36 → s .from ≤ x → x < e
     → next ≡ after n x → e ≡ after (s .level) (s .from) → Turn s n x next e
@@ -210,9 +210,9 @@ module _ {s : Query} {n x next e : ℕ} (t : Turn s n x next e) where
       where
         frame-at : (y : ℕ) → x ≤ y → y < next → m + within n x ≡ s .frame + (x - s .from) → m + within n y ≡ s .frame + (y - s .from)
         frame-at y i j k =
-            let q : y / pagesOf n * pagesOf n ≡ x / pagesOf n * pagesOf n = ap (λ (q : ℕ). q * pagesOf n) (t .same y i j) in
+            let q : y / spanPages n * spanPages n ≡ x / spanPages n * spanPages n = ap (λ (q : ℕ). q * spanPages n) (t .same y i j) in
             let o = t .started in
-            omega (arith, div-add-mod' x (pagesOf n), div-add-mod' y (pagesOf n))
+            omega (arith, div-add-mod' x (spanPages n), div-add-mod' y (spanPages n))
 
     pub at-leaf : s .want ≤ 8 → isDue ≡ false → x ≡ firstFrom s x e
     unfolding line nothing

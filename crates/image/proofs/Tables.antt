@@ -9,18 +9,18 @@ use borrow.Author.Tests.{leb-true}
 use lib.Dec.{leb}
 use lib.ListN.{length, take, drop, length-take, length-drop}
 use lib.Seq.{take-all}
-use Rattle.image.specs.Memory.{place, tableAt, tableWords}
+use Rattle.image.specs.Memory.{wordIndex, tableAt, tableWords}
 
 module _ (image : List ℕ) (base a : ℕ) where
   pub table-none : length (tableWords (tableAt image base a)) < 512 → tableAt image base a ≡ none
   unfolding tableAt
-  table-none = go (leb base a) (leb (place base a + 512) (length image)) refl
+  table-none = go (leb base a) (leb (wordIndex base a + 512) (length image)) refl
     where
-      go : (p q : Bool) → leb (place base a + 512) (length image) ≡ q
-          → (let o = cond p (cond q (some (take 512 (drop (place base a) image))) none) none in length (tableWords o) < 512 → o ≡ none)
+      go : (p q : Bool) → leb (wordIndex base a + 512) (length image) ≡ q
+          → (let o = cond p (cond q (some (take 512 (drop (wordIndex base a) image))) none) none in length (tableWords o) < 512 → o ≡ none)
       go true true e h =
           let l = simp (length-take, length-drop) at h in
-          absurd (omega (arith, leb-true (place base a + 512) (length image) e))
+          absurd (omega (arith, leb-true (wordIndex base a + 512) (length image) e))
       go true false e h = refl
       go false q e h = refl
 

@@ -10,7 +10,7 @@ use Rattle.mapping.specs.Walk.{walk, allRights}
 use Rattle.image.specs.Entry.{entry}
 use Rattle.image.specs.Memory.{tableAt}
 use Rattle.image.specs.Packed.{packed, rightsBits}
-use Rattle.image.specs.Search.{pagesOf, report, reportOf}
+use Rattle.image.specs.Search.{imagePages, report, reportOf}
 use Rattle.image.specs.declared.found.Found.{Found}
 use Rattle.answer.specs.Outcome.{gives}
 use Rattle.image.specs.declared.run_search.SearchAnswer.{SearchAnswer}
@@ -28,18 +28,18 @@ Kept end = Unit {0}
 Kept (run q g c h) = (q < 2 ^ 36) × (g < 2 ^ 40) × (q + c ≤ 2 ^ 36)
 Kept (stop q l r) = (q < 2 ^ 36) × (1 ≤ l) × (l ≤ 4)
 
-abbrev pub Answers : Found → Type 0
-Answers f = (a : Answer) × Kept a × (f ≡ foundOf a)
+abbrev pub OfAnswer : Found → Type 0
+OfAnswer f = (a : Answer) × Kept a × (f ≡ foundOf a)
 
 -- what begins at page `x`, by what the walk says of it as one number
 abbrev pub FoundAt : List ℕ → (base root x walked : ℕ) → Found → Type 0
 FoundAt image base root x n f =
     (t : List ℕ) → tableAt image base root ≡ some t → packed (walk (entry 52 true) (tableAt image base) 4 t allRights x) ≡ n
-    → f ≡ foundOf (answerAt (pagesOf 4 image base t) x (pagesOf 4 image base t .page x))
+    → f ≡ foundOf (answerAt (imagePages 4 image base t) x (imagePages 4 image base t .page x))
 
 -- the search from page `p`
 abbrev pub FoundFrom : List ℕ → (base root p : ℕ) → Found → Type 0
-FoundFrom image base root p f = (t : List ℕ) → tableAt image base root ≡ some t → f ≡ foundOf (search (pagesOf 4 image base t) p)
+FoundFrom image base root p f = (t : List ℕ) → tableAt image base root ≡ some t → f ≡ foundOf (search (imagePages 4 image base t) p)
 
 -- the next page that an answer leaves, with four levels
 abbrev pub pageAfter : Answer → ℕ

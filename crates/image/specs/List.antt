@@ -14,7 +14,7 @@ use Rattle.addr.specs.Address.{virt}
 use Rattle.addr.specs.Item.{Item, item, givenItem}
 use Rattle.page.specs.Page as page
 use Rattle.image.specs.Translate.{givenImage, pageNumber}
-use Rattle.image.specs.Search.{pageItem, report, wordsOf, pagesOf}
+use Rattle.image.specs.Search.{pageItem, report, reportWords, imagePages}
 use Rattle.image.specs.Found.{foundOf}
 use Rattle.image.specs.declared.found.Found.{Found}
 use Rattle.image.specs.declared.list_searches.ListAnswer.{ListAnswer}
@@ -23,7 +23,7 @@ use Rattle.image.specs.declared.list_searches.ListAnswer.the-variants as
 -- the words of answers, one after the other
 unfoldable pub allWords : ℕ → List Answer → List ℕ
 allWords w [] = []
-allWords w (a ∷ answers) = wordsOf (report w a) ++ allWords w answers
+allWords w (a ∷ answers) = reportWords (report w a) ++ allWords w answers
 
 -- how many answers were written, and the next page that the last of them left; none once the search is over
 pub record Listed : Type 0 where
@@ -58,7 +58,7 @@ settled w (refuses k) p out = record { answer = refuses k; words = out }
 
 unfoldable pub listing : (w levels : ℕ) → List ℕ → (base root a : ℕ) → List ℕ → Listing
 listing w levels image base root a out =
-    settled w (givenImage 52 image base root (λ t. givenItem (virt w) a 0x1000 (gives (pagesOf levels image base t)))) (pageNumber w a) out
+    settled w (givenImage 52 image base root (λ t. givenItem (virt w) a 0x1000 (gives (imagePages levels image base t)))) (pageNumber w a) out
 
 -- what each case of an answer stands for
 abbrev pub listedOf : ListAnswer → Outcome Listed
@@ -66,9 +66,9 @@ listedOf (answer.Over n) = gives (record { written = n; next = none })
 listedOf (answer.More n p) = gives (record { written = n; next = some (item (page.start p) (page.bytes p)) })
 listedOf (answer.Refused k) = refuses k
 
-abbrev pub left : ListAnswer → List ℕ → Listing
-left r out = record { answer = listedOf r; words = out }
+abbrev pub listingOf : ListAnswer → List ℕ → Listing
+listingOf r out = record { answer = listedOf r; words = out }
 
 -- an answer's words at a place of the lent ones, all else as it was
 abbrev pub Stored : (i : ℕ) → Found → List ℕ → List ℕ → Type 0
-Stored i f before after = (a : Answer) → f ≡ foundOf a → after ≡ take i before ++ (wordsOf (report 48 a) ++ drop (i + 5) before)
+Stored i f before after = (a : Answer) → f ≡ foundOf a → after ≡ take i before ++ (reportWords (report 48 a) ++ drop (i + 5) before)

@@ -7,14 +7,14 @@ use lib.Dec.{leb}
 use lib.ListN.{length, take, drop}
 
 -- where the words of the table at an address begin in the image
-abbrev pub place : ℕ → ℕ → ℕ
-place base a = (a - base) / 8
+abbrev pub wordIndex : ℕ → ℕ → ℕ
+wordIndex base a = (a - base) / 8
 
 -- "the walk hands back the table as 512 words of the caller's own image"; none where they are not wholly inside
 unfoldable pub tableAt : List ℕ → ℕ → ℕ → Option (List ℕ)
 tableAt image base a =
     cond (leb base a)
-    (cond (leb (place base a + 512) (length image)) (some (take 512 (drop (place base a) image))) none)
+    (cond (leb (wordIndex base a + 512) (length image)) (some (take 512 (drop (wordIndex base a) image))) none)
     none
 
 -- the same as words alone: an empty list where there is none

@@ -40,21 +40,21 @@ report w (found.stop q l r) = stop (pageItem w q) l r
 report w (found.run q g c h) = run (pageItem w q) (frameItem g) c h
 
 -- an answer as five words: 0 end, 1 run, 2 and 3 a stop that is reserved or outside; the page; the frame, or the level; the count; the rights as bits
-abbrev pub wordsOf : Report → List ℕ
-wordsOf end = 0 ∷ 0 ∷ 0 ∷ 0 ∷ 0 ∷ []
-wordsOf (run p f c h) = 1 ∷ p .start ∷ f .start ∷ c ∷ rightsBits h ∷ []
-wordsOf (stop p l reserved) = 2 ∷ p .start ∷ l ∷ 0 ∷ 0 ∷ []
-wordsOf (stop p l outside) = 3 ∷ p .start ∷ l ∷ 0 ∷ 0 ∷ []
+abbrev pub reportWords : Report → List ℕ
+reportWords end = 0 ∷ 0 ∷ 0 ∷ 0 ∷ 0 ∷ []
+reportWords (run p f c h) = 1 ∷ p .start ∷ f .start ∷ c ∷ rightsBits h ∷ []
+reportWords (stop p l reserved) = 2 ∷ p .start ∷ l ∷ 0 ∷ 0 ∷ []
+reportWords (stop p l outside) = 3 ∷ p .start ∷ l ∷ 0 ∷ 0 ∷ []
 
 -- the pages of an image, by the words of its root table
-abbrev pub pagesOf : (levels : ℕ) → List ℕ → (base : ℕ) → List ℕ → Space
-pagesOf levels image base t = space (entry 52 true) (tableAt image base) levels t
+abbrev pub imagePages : (levels : ℕ) → List ℕ → (base : ℕ) → List ℕ → Space
+imagePages levels image base t = space (entry 52 true) (tableAt image base) levels t
 
 -- "Both calls: base 2, 3; root 2, 3 ..; then 14 ..; only then .. the 4 KiB page (1, 3)."
 unfoldable pub searching : (w levels : ℕ) → List ℕ → (base root a : ℕ) → Outcome Report
 searching w levels image base root a =
     givenImage 52 image base root
-    (λ t. givenItem (virt w) a 0x1000 (gives (report w (search (pagesOf levels image base t) (pageNumber w a)))))
+    (λ t. givenItem (virt w) a 0x1000 (gives (report w (search (imagePages levels image base t) (pageNumber w a)))))
 
 -- the number that refuses a search, 0 for none
 unfoldable pub searchRefusal : List ℕ → (base root a : ℕ) → ℕ

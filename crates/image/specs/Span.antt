@@ -1,11 +1,11 @@
 -- Pages and the spans of entries, by page numbers: `n` + 1 is the level of the entry.
 use Prim.Native.Nat.{ℕ, _+_, _*_, _/_, _%_}
-use Rattle.mapping.specs.Walk.{pagesOf}
+use Rattle.mapping.specs.Walk.{spanPages}
 
 -- how far into its span a page is
 abbrev pub within : ℕ → ℕ → ℕ
-within n x = x % pagesOf n
+within n x = x % spanPages n
 
 -- the page after the last of the span that page `x` is in
 unfoldable pub after : ℕ → ℕ → ℕ
-after n x = (x / pagesOf n + 1) * pagesOf n
+after n x = (x / spanPages n + 1) * spanPages n

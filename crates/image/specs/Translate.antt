@@ -36,11 +36,11 @@ translated a (walked.absent l) = absent l
 translated a (walked.broken l r) = broken l r
 
 -- the same as four words: 0 mapped, 1 absent, 2 reserved, 3 outside; the physical address, or the level; the size in bytes; the rights as bits
-abbrev pub wordsOf : Translated → List ℕ
-wordsOf (mapped p z h) = 0 ∷ p ∷ z ∷ rightsBits h ∷ []
-wordsOf (absent l) = 1 ∷ l ∷ 0 ∷ 0 ∷ []
-wordsOf (broken l reserved) = 2 ∷ l ∷ 0 ∷ 0 ∷ []
-wordsOf (broken l outside) = 3 ∷ l ∷ 0 ∷ 0 ∷ []
+abbrev pub translatedWords : Translated → List ℕ
+translatedWords (mapped p z h) = 0 ∷ p ∷ z ∷ rightsBits h ∷ []
+translatedWords (absent l) = 1 ∷ l ∷ 0 ∷ 0 ∷ []
+translatedWords (broken l reserved) = 2 ∷ l ∷ 0 ∷ 0 ∷ []
+translatedWords (broken l outside) = 3 ∷ l ∷ 0 ∷ 0 ∷ []
 
 -- "then 14 if the root's 512 words aren't wholly inside"; what follows has them
 abbrev pub rooted : {A : Type 0} → Option (List ℕ) → (List ℕ → Outcome A) → Outcome A
@@ -79,8 +79,8 @@ translationOf (answer.Outside l) = gives (broken l outside)
 translationOf (answer.Refused k) = refuses k
 
 -- the answer for an address, by what the walk says of its page as one number
-abbrev pub Answers : (a found : ℕ) → TranslateAnswer → Type 0
-Answers a n r = (s : Walked) → Fits s → packed s ≡ n → translationOf r ≡ gives (translated a s)
+abbrev pub AnswersPacked : (a found : ℕ) → TranslateAnswer → Type 0
+AnswersPacked a n r = (s : Walked) → Fits s → packed s ≡ n → translationOf r ≡ gives (translated a s)
 
 -- the size of the pages that an entry of level 1, 2 or 3 maps
 abbrev pub SizeAt : ℕ → PageSize → Type 0

@@ -8,7 +8,7 @@ ghost use mathlib.Core.Bool.{cond};
 ghost use mathlib.Core.Path.{_≡_};
 ghost use Prim.Native.Nat.{_<_, _^_};
 ghost use lib.Dec.{ltb};
-ghost use Rattle.image.specs.Found.{Answers, FoundAt, FoundFrom, Leaves, foundOf};
+ghost use Rattle.image.specs.Found.{OfAnswer, FoundAt, FoundFrom, Leaves, foundOf};
 ghost use Rattle.mapping.specs.Search.{end};
 
 // How many 4 KiB pages there are, and the number of the first above the gap.
@@ -106,7 +106,7 @@ pub(crate) fn find(image: &[u64], base: u64, root: u64, page: u64) -> Found
 
 // The next page that an answer leaves.
 pub(crate) fn next_page(found: Found) -> u64
-    requires { ⌜ Answers found ⌝ }
+    requires { ⌜ OfAnswer found ⌝ }
     ensures { λ r. ⌜ Leaves found r ⌝ }
 {
     let kind = found.kind;

@@ -4,7 +4,7 @@ use crate::found::PAGES;
 use crate::found::RUN;
 use crate::found::find;
 use crate::found::next_page;
-use crate::run_search::page_at;
+use crate::run_search::numbered_page;
 use crate::run_search::search_refusal;
 use crate::translation::page_number;
 use addr::PhysAddr;
@@ -13,8 +13,8 @@ use page::Page;
 ghost use mathlib.Core.Path.{_≡_};
 ghost use Prim.Native.Nat.{_+_, _≤_};
 ghost use lib.ListN.{length};
-ghost use Rattle.image.specs.Found.{Answers};
-ghost use Rattle.image.specs.List.{left, listing, Stored};
+ghost use Rattle.image.specs.Found.{OfAnswer};
+ghost use Rattle.image.specs.List.{listingOf, listing, Stored};
 
 pub enum ListAnswer {
     // The search is over, with so many answers written.
@@ -30,11 +30,11 @@ const WORDS: usize = 5;
 // Stores an answer: its kind (0 end, 1 run, 2 and 3 a stop that is reserved or outside), the address of its page, the address of its frame or its level, its count,
 // its rights as bits.
 fn store(out: &mut [u64], at: usize, found: Found)
-    requires { ⌜ (at + 5 ≤ length (now out)) × Answers found ⌝ }
+    requires { ⌜ (at + 5 ≤ length (now out)) × OfAnswer found ⌝ }
     ensures { λ _. ⌜ Stored at found (now (out .entry)) (now (out .exit)) ⌝ }
 {
     let kind = found.kind;
-    let page = page_at(found.page);
+    let page = numbered_page(found.page);
     let place = if kind == RUN {
         found.place * 0x1000
     } else {
@@ -56,7 +56,7 @@ pub fn list(
     page: VirtAddr,
     out: &mut [u64],
 ) -> ListAnswer
-    ensures { λ r. ⌜ left r (now (out .exit)) ≡ listing 48 4 (now (image .entry)) (base .0) (root .0) (page .0) (now (out .entry)) ⌝ }
+    ensures { λ r. ⌜ listingOf r (now (out .exit)) ≡ listing 48 4 (now (image .entry)) (base .0) (root .0) (page .0) (now (out .entry)) ⌝ }
 {
     let refused = search_refusal(image, base.0, root.0, page.0);
     if refused != 0 {
@@ -67,7 +67,7 @@ pub fn list(
     let mut used = 0;
     while at < PAGES {
         if out.len() - used < WORDS {
-            return ListAnswer::More(written, page_at(at));
+            return ListAnswer::More(written, numbered_page(at));
         }
         let found = find(image, base.0, root.0, at);
         store(out, used, found);

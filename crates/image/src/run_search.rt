@@ -21,7 +21,7 @@ ghost use Prim.Native.Nat.{_<_, _^_};
 ghost use Rattle.addr.specs.Item.{item};
 ghost use Rattle.frame.specs.Frame.{start as Frame·start, bytes as Frame·bytes};
 ghost use Rattle.page.specs.Page.{start as Page·start, bytes as Page·bytes};
-ghost use Rattle.image.specs.Found.{Answers, Reports};
+ghost use Rattle.image.specs.Found.{OfAnswer, Reports};
 ghost use Rattle.image.specs.Search.{pageItem, frameItem, searchRefusal, searching, reportOf};
 
 pub enum StopReason {
@@ -40,7 +40,7 @@ pub enum SearchAnswer {
 }
 
 // The 4 KiB page with a number.
-pub(crate) fn page_at(number: u64) -> Page
+pub(crate) fn numbered_page(number: u64) -> Page
     requires { ⌜ number < 2 ^ 36 ⌝ }
     ensures { λ r. ⌜ item (Page·start r) (Page·bytes r) ≡ pageItem 48 number ⌝ }
 {
@@ -51,7 +51,7 @@ pub(crate) fn page_at(number: u64) -> Page
 }
 
 // The 4 KiB frame with a number.
-fn frame_at(number: u64) -> PhysFrame
+fn numbered_frame(number: u64) -> PhysFrame
     requires { ⌜ number < 2 ^ 40 ⌝ }
     ensures { λ r. ⌜ item (Frame·start r) (Frame·bytes r) ≡ frameItem number ⌝ }
 {
@@ -63,18 +63,18 @@ fn frame_at(number: u64) -> PhysFrame
 
 // What is reported of an answer.
 fn answer_of(found: Found) -> SearchAnswer
-    requires { ⌜ Answers found ⌝ }
+    requires { ⌜ OfAnswer found ⌝ }
     ensures { λ r. ⌜ Reports found r ⌝ }
 {
     let kind = found.kind;
     if kind == END {
         return SearchAnswer::End;
     }
-    let page = page_at(found.page);
+    let page = numbered_page(found.page);
     if kind == RUN {
         return SearchAnswer::Run(
             page,
-            frame_at(found.place),
+            numbered_frame(found.place),
             found.count,
             rights_from(found.rights),
         );

@@ -9,7 +9,7 @@ use answer::NOT_CANONICAL;
 use table::PageSize;
 ghost use mathlib.Core.Path.{_≡_};
 ghost use Rattle.image.specs.Packed.{rightsFrom};
-ghost use Rattle.image.specs.Translate.{pageNumber, rightsHeld, Answers, SizeAt, translation, translationOf};
+ghost use Rattle.image.specs.Translate.{pageNumber, rightsHeld, AnswersPacked, SizeAt, translation, translationOf};
 
 // The number is the level of the entry that decides.
 pub enum TranslateAnswer {
@@ -53,7 +53,7 @@ fn size_at(level: u64) -> PageSize
 
 // The answer for an address, by what the walk says of its page.
 fn answer_for(addr: u64, found: u64) -> TranslateAnswer
-    ensures { λ r. ⌜ Answers addr found r ⌝ }
+    ensures { λ r. ⌜ AnswersPacked addr found r ⌝ }
 {
     let kind = found & 3;
     let level = (found >> 2) & 7;

@@ -5,7 +5,7 @@ use mathlib.Core.List.{List, [], _∷_, _++_, reverse, reverse-append, reverse-r
 use mathlib.Core.Option.{Option, none, some, Option·map}
 use native.Mathlib.Omega.{arith}
 use lib.ListN.{length, length-reverse, getElem?, drop, length-drop}
-use Rattle.laws.specs.Drawing.{Side, front, back, Drawn, Drawing, and, added, drawing, EachOnce}
+use Rattle.laws.specs.Drawing.{Side, front, back, Drawn, Drawing, withItem, added, drawing, EachOnce}
 
 -- what a draw from either side gives and leaves
 pub record Draws {S : Type 0} (items : S → List ℕ) (draw : Side → S → Option (Drawn S)) : Type 0 where
@@ -13,16 +13,16 @@ pub record Draws {S : Type 0} (items : S → List ℕ) (draw : Side → S → Op
   pub from-back : (r : S) (d : Drawn S) → draw back r ≡ some d → (d .item ≡ getElem? (reverse (items r)) 0) × (reverse (items (d .left)) ≡ drop 1 (reverse (items r)))
 
 -- a list by its first item and the rest
-first-and-rest : (l : List ℕ) (x : Option ℕ) → x ≡ getElem? l 0 → and x (drop 1 l) ≡ l
+first-and-rest : (l : List ℕ) (x : Option ℕ) → x ≡ getElem? l 0 → withItem x (drop 1 l) ≡ l
 first-and-rest [] x e = rw e
 first-and-rest (y ∷ l) x e = rw e
 
-and-append : (x : Option ℕ) (l m : List ℕ) → and x l ++ m ≡ and x (l ++ m)
+and-append : (x : Option ℕ) (l m : List ℕ) → withItem x l ++ m ≡ withItem x (l ++ m)
 and-append none l m = refl
 and-append (some x) l m = refl
 
 -- the same at the end of a list
-reverse-and : (x : Option ℕ) (l : List ℕ) → reverse (and x l) ≡ reverse l ++ and x []
+reverse-and : (x : Option ℕ) (l : List ℕ) → reverse (withItem x l) ≡ reverse l ++ withItem x []
 reverse-and none l = sym (append-nil (reverse l))
 reverse-and (some x) l = reverse-append (x ∷ []) l
 
@@ -39,13 +39,13 @@ left-added back x d = refl
 
 module _ {S : Type 0} (items : S → List ℕ) (draw : Side → S → Option (Drawn S)) (p : Draws items draw) where
   -- the items of a range, by what a draw gives and those of the range that it leaves
-  front-step : (r : S) (e : Drawn S) → draw front r ≡ some e → and (e .item) (items (e .left)) ≡ items r
+  front-step : (r : S) (e : Drawn S) → draw front r ≡ some e → withItem (e .item) (items (e .left)) ≡ items r
   front-step r e h = rw (p .from-front r e h .1) (first-and-rest (items r) (e .item) (p .from-front r e h .0))
 
-  back-step : (r : S) (e : Drawn S) → draw back r ≡ some e → items (e .left) ++ and (e .item) [] ≡ items r
+  back-step : (r : S) (e : Drawn S) → draw back r ≡ some e → items (e .left) ++ withItem (e .item) [] ≡ items r
   back-step r e h =
-      let k : and (e .item) (reverse (items (e .left))) ≡ reverse (items r) = rw (p .from-back r e h .1) (first-and-rest (reverse (items r)) (e .item) (p .from-back r e h .0)) in
-      ap (λ (l : List ℕ). l ++ and (e .item) []) (sym (reverse-reverse (items (e .left)))) ∙ sym (reverse-and (e .item) (reverse (items (e .left)))) ∙ ap reverse k ∙ reverse-reverse (items r)
+      let k : withItem (e .item) (reverse (items (e .left))) ≡ reverse (items r) = rw (p .from-back r e h .1) (first-and-rest (reverse (items r)) (e .item) (p .from-back r e h .0)) in
+      ap (λ (l : List ℕ). l ++ withItem (e .item) []) (sym (reverse-reverse (items (e .left)))) ∙ sym (reverse-and (e .item) (reverse (items (e .left)))) ∙ ap reverse k ∙ reverse-reverse (items r)
 
   -- the first draw of several, and the others
   pub first-draw : (side : Side) (sides : List Side) (r : S) (d : Drawing S) → drawing draw (side ∷ sides) r ≡ some d
@@ -69,15 +69,15 @@ module _ {S : Type 0} (items : S → List ℕ) (draw : Side → S → Option (Dr
   in-order (front ∷ sides) r d h =
       let (e, d′, k, q, f) = first-draw front sides r d h in
       rw (← f)
-      (and-append (e .item) (d′ .fronts) (items (d′ .left) ++ reverse (d′ .backs)) ∙ ap (and (e .item)) (in-order sides (e .left) d′ q) ∙ front-step r e k)
+      (and-append (e .item) (d′ .fronts) (items (d′ .left) ++ reverse (d′ .backs)) ∙ ap (withItem (e .item)) (in-order sides (e .left) d′ q) ∙ front-step r e k)
   in-order (back ∷ sides) r d h =
       let (e, d′, k, q, f) = first-draw back sides r d h in
       let l = items (d′ .left) in
       rw (← f)
       (ap (λ (m : List ℕ). d′ .fronts ++ (l ++ m)) (reverse-and (e .item) (d′ .backs))
-      ∙ ap (λ (m : List ℕ). d′ .fronts ++ m) (sym (append-assoc l (reverse (d′ .backs)) (and (e .item) [])))
-      ∙ sym (append-assoc (d′ .fronts) (l ++ reverse (d′ .backs)) (and (e .item) []))
-      ∙ ap (λ (m : List ℕ). m ++ and (e .item) []) (in-order sides (e .left) d′ q)
+      ∙ ap (λ (m : List ℕ). d′ .fronts ++ m) (sym (append-assoc l (reverse (d′ .backs)) (withItem (e .item) [])))
+      ∙ sym (append-assoc (d′ .fronts) (l ++ reverse (d′ .backs)) (withItem (e .item) []))
+      ∙ ap (λ (m : List ℕ). m ++ withItem (e .item) []) (in-order sides (e .left) d′ q)
       ∙ back-step r e k)
 
   -- a draw leaves one item fewer, or none

@@ -1,7 +1,7 @@
 -- The pages of a range and the run of its numbers: a draw that does not meet the gap takes the same item from both.
 use Prim.Native.Nat.{ℕ, zero, suc, _+_, _-_, _*_, _/_, _%_, _^_, _≤_, _<_, min, max}
 use mathlib.Core.Path.{_≡_, refl, sym, ap, _∙_}
-use mathlib.Core.Bool.{Bool, true, false, cond}
+use mathlib.Core.Bool.{Bool, true, false, _&&_}
 use mathlib.Core.List.{List, [], _∷_, _++_, reverse, reverse-append, append-nil}
 use mathlib.Core.Option.{Option, none, some}
 use native.Mathlib.Omega.{arith}
@@ -72,7 +72,7 @@ module _ (w s a b : ℕ) (p : PageEnds w s a b) where
   front-at xs k d n h l = append-at (run a s d) xs n (rw run-length h) ∙ rw (run-at, run-at, lt-ltb n d h, lt-ltb n k (omega arith))
 
   -- what a draw that does not meet the gap says of n
-  pub not-gap : (x y z : Bool) → cond x (cond y z false) false ≡ false → x ≡ true → y ≡ true → z ≡ false
+  pub not-gap : (x y z : Bool) → (x && (y && z)) ≡ false → x ≡ true → y ≡ true → z ≡ false
   not-gap true true z e u v = e
   not-gap true false z e u v = let o : _≡_ {A = ℕ} 0 1 = cc in absurd (omega arith)
   not-gap false y z e u v = let o : _≡_ {A = ℕ} 0 1 = cc in absurd (omega arith)

@@ -1,6 +1,6 @@
 -- Draws from a range, on numbers: the item drawn, and where the range starts and ends after it. The sentences are those of document 01, "Ranges".
 use Prim.Native.Nat.{ℕ, _+_, _-_, _*_, _/_, _^_, min}
-use mathlib.Core.Bool.{Bool, true, false, cond}
+use mathlib.Core.Bool.{Bool, cond, _&&_}
 use mathlib.Core.List.{List, reverse}
 use mathlib.Core.Option.{Option}
 use lib.Dec.{ltb, leb}
@@ -45,19 +45,16 @@ pagesToGap w a s = (half w - a) / s
 abbrev pub pagesFromGap : ℕ → ℕ → ℕ → ℕ
 pagesFromGap w b s = (b - firstHigh w) / s
 
-abbrev all : Bool → Bool → Bool → Bool
-all x y z = cond x (cond y z false) false
-
 -- "front: start low, n ≥ d − 1, and end at or past the last low page (exclusive: end high)"
 unfoldable pub gapFrontBelow : ℕ → ℕ → ℕ → ℕ → ℕ → Bool
-gapFrontBelow w a b s n = all (ltb a (half w)) (leb (firstHigh w) b) (leb (pagesToGap w a s) (n + 1))
+gapFrontBelow w a b s n = ltb a (half w) && (leb (firstHigh w) b && leb (pagesToGap w a s) (n + 1))
 
 unfoldable pub gapFrontThrough : ℕ → ℕ → ℕ → ℕ → ℕ → Bool
-gapFrontThrough w a b s n = all (ltb a (half w)) (leb (half w - s) b) (leb (pagesToGap w a s) (n + 1))
+gapFrontThrough w a b s n = ltb a (half w) && (leb (half w - s) b && leb (pagesToGap w a s) (n + 1))
 
 -- "Back: end high, n ≥ k, and start at or below 0xffff_8000_0000_0000 (exclusive: start low)"
 unfoldable pub gapBackBelow : ℕ → ℕ → ℕ → ℕ → ℕ → Bool
-gapBackBelow w a b s n = all (leb (firstHigh w) b) (ltb a (half w)) (leb (pagesFromGap w b s) n)
+gapBackBelow w a b s n = leb (firstHigh w) b && (ltb a (half w) && leb (pagesFromGap w b s) n)
 
 unfoldable pub gapBackThrough : ℕ → ℕ → ℕ → ℕ → ℕ → Bool
-gapBackThrough w a b s n = all (leb (firstHigh w) b) (leb a (firstHigh w)) (leb (pagesFromGap w b s) n)
+gapBackThrough w a b s n = leb (firstHigh w) b && (leb a (firstHigh w) && leb (pagesFromGap w b s) n)

@@ -20,13 +20,13 @@ pub record Drawing (S : Type 0) : Type 0 where
   pub backs : List ℕ
   pub left : S
 
-abbrev pub and : Option ℕ → List ℕ → List ℕ
-and none l = l
-and (some x) l = x ∷ l
+abbrev pub withItem : Option ℕ → List ℕ → List ℕ
+withItem none l = l
+withItem (some x) l = x ∷ l
 
 abbrev pub added : {S : Type 0} → Side → Option ℕ → Drawing S → Drawing S
-added front x d = record { fronts = and x (d .fronts); backs = d .backs; left = d .left }
-added back x d = record { fronts = d .fronts; backs = and x (d .backs); left = d .left }
+added front x d = record { fronts = withItem x (d .fronts); backs = d .backs; left = d .left }
+added back x d = record { fronts = d .fronts; backs = withItem x (d .backs); left = d .left }
 
 -- draws one after the other, each of the range that the one before it left; none where one of them is refused
 unfoldable pub drawing : {S : Type 0} → (Side → S → Option (Drawn S)) → List Side → S → Option (Drawing S)

@@ -8,14 +8,14 @@ use lib.Pow.{pow-pos, pow-mono, pow-add, shr-shr, field, mod-mod-pow}
 use lib.ListN.{getD}
 use Rattle.mapping.specs.Pages.{Rights, Reason, reserved, outside, Spanned}
 use Rattle.mapping.specs.Pages as page
-use Rattle.mapping.specs.Walk.{Entry, notPresent, reservedBit, maps, table, Walked, absent, broken, mapped, joined, allRights, pagesOf, follow, step, walk, stateOf, space}
+use Rattle.mapping.specs.Walk.{Entry, notPresent, reservedBit, maps, table, Walked, absent, broken, mapped, joined, allRights, spanPages, follow, step, walk, stateOf, space}
 
 -- the entry of level n + 1 that page x is under, in the table t
 abbrev pub entryOf : (entry : ℕ → ℕ → Entry) (n : ℕ) (t : List ℕ) (x : ℕ) → Entry
-entryOf entry n t x = entry (n + 1) (getD t (x / pagesOf n % 512) 0)
+entryOf entry n t x = entry (n + 1) (getD t (x / spanPages n % 512) 0)
 
 -- pages under one entry are under one entry at each level above
-same-above : (l n x y : ℕ) → l ≤ n → y / pagesOf l ≡ x / pagesOf l → y / pagesOf n ≡ x / pagesOf n
+same-above : (l n x y : ℕ) → l ≤ n → y / spanPages l ≡ x / spanPages l → y / spanPages n ≡ x / spanPages n
 same-above l n x y b d = shift y ∙ ap (λ (k : ℕ). k / 2 ^ (9 * (n - l))) d ∙ sym (shift x)
   where
     shift : (z : ℕ) → z / 2 ^ (9 * n) ≡ z / 2 ^ (9 * l) / 2 ^ (9 * (n - l))
@@ -34,7 +34,7 @@ state-broken (mapped g k h) l c e = cc
 
 module _ (entry : ℕ → ℕ → Entry) (memory : ℕ → Option (List ℕ)) where
   -- a page y under the entry of level n + 1 that page x is under
-  module _ (n : ℕ) (t : List ℕ) (r : Rights) (x y : ℕ) (same : y / pagesOf n ≡ x / pagesOf n) where
+  module _ (n : ℕ) (t : List ℕ) (r : Rights) (x y : ℕ) (same : y / spanPages n ≡ x / spanPages n) where
     pub walk-step : (v : Entry) → entryOf entry n t x ≡ v → walk entry memory (suc n) t r y ≡ step memory (λ t′ r′. walk entry memory n t′ r′ y) n r y v
     unfolding walk
     walk-step v e = rw (same, e)
@@ -47,7 +47,7 @@ module _ (entry : ℕ → ℕ → Entry) (memory : ℕ → Option (List ℕ)) wh
     unfolding step
     walk-reserved = walk-step reservedBit
 
-    pub walk-mapped : (g : ℕ) (h : Rights) → entryOf entry n t x ≡ maps g h → walk entry memory (suc n) t r y ≡ mapped (g + y % pagesOf n) (n + 1) (joined r h)
+    pub walk-mapped : (g : ℕ) (h : Rights) → entryOf entry n t x ≡ maps g h → walk entry memory (suc n) t r y ≡ mapped (g + y % spanPages n) (n + 1) (joined r h)
     unfolding step
     walk-mapped g h = walk-step (maps g h)
 
@@ -61,37 +61,37 @@ module _ (entry : ℕ → ℕ → Entry) (memory : ℕ → Option (List ℕ)) wh
     walk-below a h t′ e m = walk-step (table a h) e ∙ rw (m, step)
 
   -- the walk goes by a page's indices and its place in a span alone, so by its number below their count
-  pub walk-low : (m n : ℕ) (t : List ℕ) (r : Rights) (x : ℕ) → n ≤ m → walk entry memory n t r (x % pagesOf m) ≡ walk entry memory n t r x
+  pub walk-low : (m n : ℕ) (t : List ℕ) (r : Rights) (x : ℕ) → n ≤ m → walk entry memory n t r (x % spanPages m) ≡ walk entry memory n t r x
   unfolding walk step
   walk-low m zero t r x h = refl
   walk-low m (suc n) t r x h =
-      ap (λ (i : ℕ). step memory (λ t′ r′. walk entry memory n t′ r′ (x % pagesOf m)) n r (x % pagesOf m) (entry (n + 1) (getD t i 0))) index
-      ∙ go (entry (n + 1) (getD t (x / pagesOf n % 512) 0)) (λ t′ r′. walk-low m n t′ r′ x (omega arith))
+      ap (λ (i : ℕ). step memory (λ t′ r′. walk entry memory n t′ r′ (x % spanPages m)) n r (x % spanPages m) (entry (n + 1) (getD t i 0))) index
+      ∙ go (entry (n + 1) (getD t (x / spanPages n % 512) 0)) (λ t′ r′. walk-low m n t′ r′ x (omega arith))
     where
-      index : x % pagesOf m / pagesOf n % 512 ≡ x / pagesOf n % 512
+      index : x % spanPages m / spanPages n % 512 ≡ x / spanPages n % 512
       index =
           let e : 9 * m ≡ 9 * (m - n - 1) + 9 + 9 * n = omega arith in
           rw e (ap (λ (k : ℕ). k % 2 ^ 9) (field x (9 * (m - n - 1) + 9) (9 * n)) ∙ mod-mod-pow (x / 2 ^ (9 * n)) (9 * (m - n - 1)) 9)
 
-      place : x % pagesOf m % pagesOf n ≡ x % pagesOf n
+      place : x % spanPages m % spanPages n ≡ x % spanPages n
       place = let e : 9 * m ≡ 9 * (m - n) + 9 * n = omega arith in rw e (mod-mod-pow x (9 * (m - n)) (9 * n))
 
       follows : (o : Option (List ℕ)) (f g : List ℕ → Walked) → ((t′ : List ℕ) → f t′ ≡ g t′) → follow o (n + 1) f ≡ follow o (n + 1) g
       follows none f g e = refl
       follows (some t′) f g e = e t′
 
-      go : (v : Entry) → ((t′ : List ℕ) (r′ : Rights) → walk entry memory n t′ r′ (x % pagesOf m) ≡ walk entry memory n t′ r′ x)
-          → step memory (λ t′ r′. walk entry memory n t′ r′ (x % pagesOf m)) n r (x % pagesOf m) v ≡ step memory (λ t′ r′. walk entry memory n t′ r′ x) n r x v
+      go : (v : Entry) → ((t′ : List ℕ) (r′ : Rights) → walk entry memory n t′ r′ (x % spanPages m) ≡ walk entry memory n t′ r′ x)
+          → step memory (λ t′ r′. walk entry memory n t′ r′ (x % spanPages m)) n r (x % spanPages m) v ≡ step memory (λ t′ r′. walk entry memory n t′ r′ x) n r x v
       go notPresent f = refl
       go reservedBit f = refl
       go (maps g k) f = ap (λ (i : ℕ). mapped (g + i) (n + 1) (joined r k)) place
-      go (table a k) f = follows (memory a) (λ t′. walk entry memory n t′ (joined r k) (x % pagesOf m)) (λ t′. walk entry memory n t′ (joined r k) x) (λ t′. f t′ (joined r k))
+      go (table a k) f = follows (memory a) (λ t′. walk entry memory n t′ (joined r k) (x % spanPages m)) (λ t′. walk entry memory n t′ (joined r k) x) (λ t′. f t′ (joined r k))
 
   -- a broken entry's level is one of the levels walked, and the pages of its span are broken alike
   pub record BrokenSpan (n : ℕ) (t : List ℕ) (r : Rights) (x l : ℕ) (c : Reason) : Type 0 where
     pub above-zero : 0 < l
     pub at-most : l ≤ n
-    pub alike : (y : ℕ) → y / pagesOf (l - 1) ≡ x / pagesOf (l - 1) → walk entry memory n t r y ≡ broken l c
+    pub alike : (y : ℕ) → y / spanPages (l - 1) ≡ x / spanPages (l - 1) → walk entry memory n t r y ≡ broken l c
 
   pub broken-span : (n : ℕ) (t : List ℕ) (r : Rights) (x l : ℕ) (c : Reason) → walk entry memory n t r x ≡ broken l c → BrokenSpan n t r x l c
   unfolding walk
@@ -99,7 +99,7 @@ module _ (entry : ℕ → ℕ → Entry) (memory : ℕ → Option (List ℕ)) wh
   broken-span (suc n) t r x l c e = go (entryOf entry n t x) refl (λ t′ r′. broken-span n t′ r′ x l c)
     where
       -- the entry itself is broken
-      here : (d : Reason) → ((y : ℕ) → y / pagesOf n ≡ x / pagesOf n → walk entry memory (suc n) t r y ≡ broken (n + 1) d) → BrokenSpan (suc n) t r x l c
+      here : (d : Reason) → ((y : ℕ) → y / spanPages n ≡ x / spanPages n → walk entry memory (suc n) t r y ≡ broken (n + 1) d) → BrokenSpan (suc n) t r x l c
       here d f =
           let same : broken (n + 1) d ≡ broken l c = sym (f x refl) ∙ e in
           let level : n + 1 ≡ l = cc in

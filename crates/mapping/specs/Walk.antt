@@ -31,8 +31,8 @@ abbrev pub allRights : Rights
 allRights = rights true true false
 
 -- the pages that an entry of level `n` + 1 spans
-abbrev pub pagesOf : ℕ → ℕ
-pagesOf n = 2 ^ (9 * n)
+abbrev pub spanPages : ℕ → ℕ
+spanPages n = 2 ^ (9 * n)
 
 -- "next table wholly in the image": what the table says, or outside, with the level `l` of the entry that names it
 abbrev pub follow : Option (List ℕ) → (l : ℕ) → (List ℕ → Walked) → Walked
@@ -43,13 +43,13 @@ follow (some t) l f = f t
 unfoldable pub step : (memory : ℕ → Option (List ℕ)) (below : List ℕ → Rights → Walked) → (n : ℕ) → Rights → (x : ℕ) → Entry → Walked
 step memory below n r x notPresent = absent (n + 1)
 step memory below n r x reservedBit = broken (n + 1) reserved
-step memory below n r x (maps g h) = mapped (g + x % pagesOf n) (n + 1) (joined r h)
+step memory below n r x (maps g h) = mapped (g + x % spanPages n) (n + 1) (joined r h)
 step memory below n r x (table a h) = follow (memory a) (n + 1) (λ t. below t (joined r h))
 
 -- "Each lower table is searched by the same rule, one level down.": page `x` by the table `t` of a level. An index is nine bits of the page's number
 unfoldable pub walk : (entry : ℕ → ℕ → Entry) (memory : ℕ → Option (List ℕ)) → (level : ℕ) → List ℕ → Rights → (x : ℕ) → Walked
 walk entry memory zero t r x = absent 0
-walk entry memory (suc n) t r x = step memory (λ t′ r′. walk entry memory n t′ r′ x) n r x (entry (n + 1) (getD t (x / pagesOf n % 512) 0))
+walk entry memory (suc n) t r x = step memory (λ t′ r′. walk entry memory n t′ r′ x) n r x (entry (n + 1) (getD t (x / spanPages n % 512) 0))
 
 -- "Words of demand 3. A 4 KiB page is mapped, absent, reserved or outside as translate answers"
 abbrev pub stateOf : Walked → PageState
@@ -64,5 +64,5 @@ space entry memory levels t =
       page = λ x. stateOf (walk entry memory levels t allRights x);
       size = 2 ^ (9 * levels);
       high = 2 ^ (9 * levels - 1);
-      span = λ l. pagesOf (l - 1);
+      span = λ l. spanPages (l - 1);
     }

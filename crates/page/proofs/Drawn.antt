@@ -15,7 +15,7 @@ use Rattle.table.specs.declared.size.PageSize.{PageSize}
 use Rattle.addr.specs.Widths.{widthOf}
 use Rattle.addr.specs.declared.width.Width.{Width}
 use Rattle.page.specs.Page.{start, bytes}
-use Rattle.page.specs.Range.{pageAnswer, refusal, nthOf, nthBackOf, nthInclusiveOf, nthBackInclusiveOf, given, pagesOf, pagesInclusiveOf, drawFrom, drawInclusiveFrom}
+use Rattle.page.specs.Range.{pageAnswer, refusal, nthOf, nthBackOf, nthInclusiveOf, nthBackInclusiveOf, drawnOf, pagesOf, pagesInclusiveOf, drawFrom, drawInclusiveFrom}
 use Rattle.page.specs.declared.page.PageAnswer.{PageAnswer}
 use Rattle.page.specs.declared.page.PageAnswer.the-variants as page
 use Rattle.page.specs.declared.range.PageRange.{PageRange}
@@ -24,22 +24,22 @@ use Rattle.page.proofs.Ranges.{nth-refused, nth-gap, nth-given, nth-bac
 use Rattle.page.proofs.Left.{nth-left, nth-back-left, nth-inclusive-left, nth-back-inclusive-left}
 
 module _ {S : Type 0} (s : S) (d : Drawn S) where
-  given-left : (a : PageAnswer) → given a s ≡ some d → d .left ≡ s
+  given-left : (a : PageAnswer) → drawnOf a s ≡ some d → d .left ≡ s
   given-left (page.Refused k) h = absurd (let z : _≡_ {A = ℕ} 0 1 = cc in omega arith)
   given-left page.None h = cc
   given-left (page.Page p) h = cc
 
-  given-item : (z : PageSize) (x : Option ℕ) → given (pageAnswer z x) s ≡ some d → d .item ≡ x
+  given-item : (z : PageSize) (x : Option ℕ) → drawnOf (pageAnswer z x) s ≡ some d → d .item ≡ x
   unfolding pageAnswer
   given-item z none h = cc
   given-item z (some a) h = cc
 
-  refused-not : (k : ℕ) (a : PageAnswer) → page.Refused k ≡ a → given a s ≡ some d → ⊥
+  refused-not : (k : ℕ) (a : PageAnswer) → page.Refused k ≡ a → drawnOf a s ≡ some d → ⊥
   refused-not k a e h = let i : none ≡ some d = rw (← e) at h in let z : _≡_ {A = ℕ} 0 1 = cc in omega arith
 
   -- a draw that is not refused, by the ways through it: its range is accepted, it does not meet the gap, and it gives `x`
   not-refused : (k : ℕ) (gap : Bool) (a : PageAnswer) (z : PageSize) (x : Option ℕ) → ((k ≡ 0 → ⊥) → page.Refused k ≡ a) → (k ≡ 0 → gap ≡ true → page.Refused 10 ≡ a)
-      → (k ≡ 0 → gap ≡ false → pageAnswer z x ≡ a) → given a s ≡ some d → (k ≡ 0) × (gap ≡ false) × (d .item ≡ x) × (d .left ≡ s)
+      → (k ≡ 0 → gap ≡ false → pageAnswer z x ≡ a) → drawnOf a s ≡ some d → (k ≡ 0) × (gap ≡ false) × (d .item ≡ x) × (d .left ≡ s)
   not-refused k true a z x f t g h = by-cases (ℕ-discrete k 0) (λ e. absurd (refused-not 10 a (t e refl) h)) (λ n. absurd (refused-not k a (f n) h))
   not-refused k false a z x f t g h =
       by-cases (ℕ-discrete k 0) (λ e. (e, refl, given-item z x (rw (← g e refl) at h), given-left a h)) (λ n. absurd (refused-not k a (f n) h))

@@ -31,7 +31,7 @@ use Rattle.addr.specs.declared.width.Width.the-variants.{Bits48, Bits57}
 use Rattle.addr.proofs.Item.{virt-argument, item-passed, items-passed, first-refused, refused-or}
 use Rattle.addr.proofs.Widths.{widths}
 use Rattle.page.specs.Page.{start, bytes}
-use Rattle.page.specs.Range.{pageAtSize, pageAnswer, topPage, refusal, drawnBelow, drawnThrough, nthOf, nthBackOf, nthInclusiveOf, nthBackInclusiveOf}
+use Rattle.page.specs.Range.{pageAt, pageAnswer, topPage, refusal, drawnBelow, drawnThrough, nthOf, nthBackOf, nthInclusiveOf, nthBackInclusiveOf}
 use Rattle.page.specs.declared.page.Page.{Page}
 use Rattle.page.specs.declared.page.PageAnswer.the-variants as page
 use Rattle.page.specs.declared.range.PageRange.{PageRange}
@@ -82,7 +82,7 @@ accepted v x y r =
 module _ (w : ℕ) (r : PageRange) (gap : Bool) (d : draw.Draw) where
   -- the draw's answer and the range left
   abbrev pub settled : PageDraw
-  settled = record { answer = pageAnswer (r .start .size) (d .item); range = record { start = pageAtSize (r .start .size) (d .start); end = pageAtSize (r .end .size) (d .end) } }
+  settled = record { answer = pageAnswer (r .start .size) (d .item); range = record { start = pageAt (r .start .size) (d .start); end = pageAt (r .end .size) (d .end) } }
 
   refused-below : (refusal w (r .start) (r .end) ≡ 0 → ⊥) → record { answer = page.Refused (refusal w (r .start) (r .end)); range = r } ≡ drawnBelow w r gap d
   refused-below n = rw (first-refused (refusal w (r .start) (r .end)) _ n) (sym (refused-or (refusal w (r .start) (r .end)) _ _ n))
@@ -147,7 +147,7 @@ module _ (v : Width) (r : PageRange) (n : ℕ) where
 module _ (w : ℕ) (r : PageRangeInclusive) (gap : Bool) (d : draw.Draw) where
   -- the draw's answer and the range left
   abbrev pub settledInclusive : PageDrawInclusive
-  settledInclusive = record { answer = pageAnswer (r .start .size) (d .item); range = record { start = pageAtSize (r .start .size) (d .start); end = pageAtSize (r .end .size) (d .end) } }
+  settledInclusive = record { answer = pageAnswer (r .start .size) (d .item); range = record { start = pageAt (r .start .size) (d .start); end = pageAt (r .end .size) (d .end) } }
 
   refused-through : (refusal w (r .start) (r .end) ≡ 0 → ⊥) → record { answer = page.Refused (refusal w (r .start) (r .end)); range = r } ≡ drawnThrough w r gap d
   refused-through n = rw (first-refused (refusal w (r .start) (r .end)) _ n) (sym (refused-or (refusal w (r .start) (r .end)) _ _ n))

@@ -42,18 +42,18 @@ abbrev pub indices : List ℕ → ℕ → ℕ
 indices ps l = getD ps (l - 1) 0
 
 -- "`from_page_table_indices` (four indices; three at 2 MiB, two at 1 GiB) sign-extends the assembled address": the levels below have index 0
-abbrev pub pageAt : ℕ → ℕ → List ℕ → ℕ → Outcome Item
-pageAt w l ps z = gives (item (signExtend w (assemble l (indices ps) 0)) z)
+abbrev pub assembledPage : ℕ → ℕ → List ℕ → ℕ → Outcome Item
+assembledPage w l ps z = gives (item (signExtend w (assemble l (indices ps) 0)) z)
 
 abbrev pub fromIndices : ℕ → ℕ → ℕ → ℕ → Outcome Item
 fromIndices p4 p3 p2 p1 =
-    givenIndex p4 (givenIndex p3 (givenIndex p2 (givenIndex p1 (pageAt 48 4 (p1 ∷ p2 ∷ p3 ∷ p4 ∷ []) 0x1000))))
+    givenIndex p4 (givenIndex p3 (givenIndex p2 (givenIndex p1 (assembledPage 48 4 (p1 ∷ p2 ∷ p3 ∷ p4 ∷ []) 0x1000))))
 
 abbrev pub fromIndices2MiB : ℕ → ℕ → ℕ → Outcome Item
-fromIndices2MiB p4 p3 p2 = givenIndex p4 (givenIndex p3 (givenIndex p2 (pageAt 48 4 (0 ∷ p2 ∷ p3 ∷ p4 ∷ []) 0x20_0000)))
+fromIndices2MiB p4 p3 p2 = givenIndex p4 (givenIndex p3 (givenIndex p2 (assembledPage 48 4 (0 ∷ p2 ∷ p3 ∷ p4 ∷ []) 0x20_0000)))
 
 abbrev pub fromIndices1GiB : ℕ → ℕ → Outcome Item
-fromIndices1GiB p4 p3 = givenIndex p4 (givenIndex p3 (pageAt 48 4 (0 ∷ 0 ∷ p3 ∷ p4 ∷ []) 0x4000_0000))
+fromIndices1GiB p4 p3 = givenIndex p4 (givenIndex p3 (assembledPage 48 4 (0 ∷ 0 ∷ p3 ∷ p4 ∷ []) 0x4000_0000))
 
 -- "the wrappers above the address steps: `None` also if count × size passes 64 bits": such a count is past the last page anyway
 abbrev pub pageForward : ℕ → ℕ → ℕ → ℕ → Outcome Item

@@ -40,12 +40,12 @@ rangeInclusiveOf (through-answer.Refused k) = refuses k
 abbrev pub as4KiB : ℕ → ℕ → ℕ → ℕ → ℕ → Outcome Ends
 as4KiB w a y b z = givenItems (virt w) a y b z (unless sizesDiffer (eqb y 0x20_0000) (gives (ends (item a 0x1000) (item b 0x1000))))
 
-abbrev pub pageAtSize : PageSize → ℕ → Page
-pageAtSize z a = record { «start_address» = record { 0 = a }; size = z }
+abbrev pub pageAt : PageSize → ℕ → Page
+pageAt z a = record { «start_address» = record { 0 = a }; size = z }
 
 unfoldable pub pageAnswer : PageSize → Option ℕ → PageAnswer
 pageAnswer z none = page.None
-pageAnswer z (some a) = page.Page (pageAtSize z a)
+pageAnswer z (some a) = page.Page (pageAt z a)
 
 -- the topmost page of a size
 abbrev pub topPage : ℕ → ℕ
@@ -60,7 +60,7 @@ abbrev pub drawnBelow : ℕ → PageRange → Bool → draw.Draw → PageDraw
 drawnBelow w r gap d =
     refusedOr (firstRefusal (refusal w (r .start) (r .end)) (cond gap drawMeetsGap 0)) (λ k. record { answer = page.Refused k; range = r }) (record {
       answer = pageAnswer (r .start .size) (d .item);
-      range = record { start = pageAtSize (r .start .size) (d .start); end = pageAtSize (r .end .size) (d .end) };
+      range = record { start = pageAt (r .start .size) (d .start); end = pageAt (r .end .size) (d .end) };
     })
 
 unfoldable pub nthOf : ℕ → PageRange → ℕ → PageDraw
@@ -82,7 +82,7 @@ abbrev pub drawnThrough : ℕ → PageRangeInclusive → Bool → draw.Draw → 
 drawnThrough w r gap d =
     refusedOr (firstRefusal (refusal w (r .start) (r .end)) (cond gap drawMeetsGap 0)) (λ k. record { answer = page.Refused k; range = r }) (record {
       answer = pageAnswer (r .start .size) (d .item);
-      range = record { start = pageAtSize (r .start .size) (d .start); end = pageAtSize (r .end .size) (d .end) };
+      range = record { start = pageAt (r .start .size) (d .start); end = pageAt (r .end .size) (d .end) };
     })
 
 unfoldable pub nthInclusiveOf : ℕ → PageRangeInclusive → ℕ → PageDrawInclusive
@@ -107,16 +107,16 @@ abbrev pub pagesInclusiveOf : ℕ → PageRangeInclusive → List ℕ
 pagesInclusiveOf w r = pagesThrough w (start (r .start)) (start (r .end)) (bytes (r .start))
 
 -- a draw as what it gives and the range left, `s`; none where it is refused
-abbrev pub given : {S : Type 0} → PageAnswer → S → Option (Drawn S)
-given (page.Refused k) s = none
-given page.None s = some (record { item = none; left = s })
-given (page.Page p) s = some (record { item = some (start p); left = s })
+abbrev pub drawnOf : {S : Type 0} → PageAnswer → S → Option (Drawn S)
+drawnOf (page.Refused k) s = none
+drawnOf page.None s = some (record { item = none; left = s })
+drawnOf (page.Page p) s = some (record { item = some (start p); left = s })
 
 -- `next` and `next_back`
 abbrev pub drawFrom : ℕ → Side → PageRange → Option (Drawn PageRange)
-drawFrom w front r = given (nthOf w r 0 .answer) (nthOf w r 0 .range)
-drawFrom w back r = given (nthBackOf w r 0 .answer) (nthBackOf w r 0 .range)
+drawFrom w front r = drawnOf (nthOf w r 0 .answer) (nthOf w r 0 .range)
+drawFrom w back r = drawnOf (nthBackOf w r 0 .answer) (nthBackOf w r 0 .range)
 
 abbrev pub drawInclusiveFrom : ℕ → Side → PageRangeInclusive → Option (Drawn PageRangeInclusive)
-drawInclusiveFrom w front r = given (nthInclusiveOf w r 0 .answer) (nthInclusiveOf w r 0 .range)
-drawInclusiveFrom w back r = given (nthBackInclusiveOf w r 0 .answer) (nthBackInclusiveOf w r 0 .range)
+drawInclusiveFrom w front r = drawnOf (nthInclusiveOf w r 0 .answer) (nthInclusiveOf w r 0 .range)
+drawInclusiveFrom w back r = drawnOf (nthBackInclusiveOf w r 0 .answer) (nthBackInclusiveOf w r 0 .range)

@@ -10,10 +10,10 @@ ghost use Rattle.laws.specs.Draw.{gapFrontBelow, gapFrontThrough, gapBackBelow,
 ghost use Rattle.table.specs.Level.{bytesOf};
 ghost use Rattle.addr.specs.Widths.{widthOf};
 ghost use Rattle.draw.specs.Draws.{itemOf};
-ghost use Rattle.page.specs.Range.{pageAtSize, pageAnswer};
+ghost use Rattle.page.specs.Range.{pageAt, pageAnswer};
 
-pub(crate) fn page_at_size(size: PageSize, start: u64) -> Page
-    ensures { λ r. ⌜ r ≡ pageAtSize size start ⌝ }
+pub(crate) fn page_at(size: PageSize, start: u64) -> Page
+    ensures { λ r. ⌜ r ≡ pageAt size start ⌝ }
 {
     Page {
         start_address: VirtAddr(start),
@@ -25,7 +25,7 @@ pub(crate) fn page_answer(size: PageSize, item: Item) -> PageAnswer
     ensures { λ r. ⌜ r ≡ pageAnswer size (itemOf item) ⌝ }
 {
     match item {
-        Item::At(a) => PageAnswer::Page(page_at_size(size, a)),
+        Item::At(a) => PageAnswer::Page(page_at(size, a)),
         Item::None => PageAnswer::None,
     }
 }

@@ -24,7 +24,7 @@ fn assembled(p4: u16, p3: u16, p2: u16, p1: u16) -> u64
 }
 
 // The page of this size at the number, sign-extended.
-fn page_at(number: u64, size: PageSize) -> PageAnswer
+fn truncated_page(number: u64, size: PageSize) -> PageAnswer
     ensures { λ r. ⌜ pageOf r ≡ gives (item (signExtend 48 number) (bytesOf size)) ⌝ }
 {
     let address = Width::Bits48.truncate(number);
@@ -49,7 +49,7 @@ pub(crate) fn page_4kib(p4: u16, p3: u16, p2: u16, p1: u16) -> PageAnswer
     if 512 <= p1 {
         return PageAnswer::Refused(INDEX_TOO_LARGE);
     }
-    page_at(assembled(p4, p3, p2, p1), PageSize::Size4KiB)
+    truncated_page(assembled(p4, p3, p2, p1), PageSize::Size4KiB)
 }
 
 pub(crate) fn page_2mib(p4: u16, p3: u16, p2: u16) -> PageAnswer
@@ -64,7 +64,7 @@ pub(crate) fn page_2mib(p4: u16, p3: u16, p2: u16) -> PageAnswer
     if 512 <= p2 {
         return PageAnswer::Refused(INDEX_TOO_LARGE);
     }
-    page_at(assembled(p4, p3, p2, 0), PageSize::Size2MiB)
+    truncated_page(assembled(p4, p3, p2, 0), PageSize::Size2MiB)
 }
 
 pub(crate) fn page_1gib(p4: u16, p3: u16) -> PageAnswer
@@ -76,5 +76,5 @@ pub(crate) fn page_1gib(p4: u16, p3: u16) -> PageAnswer
     if 512 <= p3 {
         return PageAnswer::Refused(INDEX_TOO_LARGE);
     }
-    page_at(assembled(p4, p3, 0, 0), PageSize::Size1GiB)
+    truncated_page(assembled(p4, p3, 0, 0), PageSize::Size1GiB)
 }

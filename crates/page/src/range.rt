@@ -2,7 +2,7 @@
 use crate::draws::gap_back_below;
 use crate::draws::gap_front_below;
 use crate::draws::page_answer;
-use crate::draws::page_at_size;
+use crate::draws::page_at;
 use crate::page::Page;
 use crate::page::PageAnswer;
 use crate::width::pages_refusal;
@@ -80,8 +80,8 @@ fn draw_nth_at(width: Width, range: PageRange, n: u64) -> PageDraw
     PageDraw {
         answer: page_answer(size, item),
         range: PageRange {
-            start: page_at_size(size, d.start),
-            end: page_at_size(end_size, d.end),
+            start: page_at(size, d.start),
+            end: page_at(end_size, d.end),
         },
     }
 }
@@ -128,8 +128,8 @@ fn draw_nth_back_at(width: Width, range: PageRange, n: u64) -> PageDraw
     PageDraw {
         answer: page_answer(size, item),
         range: PageRange {
-            start: page_at_size(size, d.start),
-            end: page_at_size(end_size, d.end),
+            start: page_at(size, d.start),
+            end: page_at(end_size, d.end),
         },
     }
 }
@@ -206,8 +206,8 @@ impl PageRange {
             return PageRangeAnswer::Refused(SIZES_DIFFER);
         }
         PageRangeAnswer::Range(PageRange {
-            start: page_at_size(PageSize::Size4KiB, start.start_address.0),
-            end: page_at_size(PageSize::Size4KiB, end.start_address.0),
+            start: page_at(PageSize::Size4KiB, start.start_address.0),
+            end: page_at(PageSize::Size4KiB, end.start_address.0),
         })
     }
 }

@@ -2,7 +2,7 @@
 use crate::draws::gap_back_through;
 use crate::draws::gap_front_through;
 use crate::draws::page_answer;
-use crate::draws::page_at_size;
+use crate::draws::page_at;
 use crate::page::Page;
 use crate::page::PageAnswer;
 use crate::width::pages_refusal;
@@ -79,8 +79,8 @@ fn draw_nth_inclusive_at(width: Width, range: PageRangeInclusive, n: u64) -> Pag
     PageDrawInclusive {
         answer: page_answer(size, item),
         range: PageRangeInclusive {
-            start: page_at_size(size, d.start),
-            end: page_at_size(end_size, d.end),
+            start: page_at(size, d.start),
+            end: page_at(end_size, d.end),
         },
     }
 }
@@ -127,8 +127,8 @@ fn draw_nth_back_inclusive_at(width: Width, range: PageRangeInclusive, n: u64) -
     PageDrawInclusive {
         answer: page_answer(size, item),
         range: PageRangeInclusive {
-            start: page_at_size(size, d.start),
-            end: page_at_size(end_size, d.end),
+            start: page_at(size, d.start),
+            end: page_at(end_size, d.end),
         },
     }
 }

@@ -1,14 +1,14 @@
 // A question of the list, asked of the C interface. The operations' numbers are those of
 // oracle/compare/src/operations/.
 use crate::line::Line;
-use cabi::align;
-use cabi::frame_ranges;
-use cabi::frames;
-use cabi::page_ranges;
-use cabi::pages;
-use cabi::phys_addr;
-use cabi::tables;
-use cabi::virt_addr;
+use wuohtan::align;
+use wuohtan::frame_ranges;
+use wuohtan::frames;
+use wuohtan::page_ranges;
+use wuohtan::pages;
+use wuohtan::phys_addr;
+use wuohtan::tables;
+use wuohtan::virt_addr;
 ghost use Prim.Native.Nat.{_≤_};
 
 // A status that no call answers.

@@ -14,7 +14,7 @@ use Rattle.mapping.specs.Walk.{Walked, allRights, walk, stateOf}
 use Rattle.image.specs.Entry.{entry}
 use Rattle.image.specs.Memory.{tableAt}
 use Rattle.image.specs.Packed.{packed}
-use Rattle.image.specs.Search.{pagesOf}
+use Rattle.image.specs.Search.{imagePages}
 use Rattle.image.specs.Found.{foundOf}
 use Rattle.image.specs.declared.found.Found.{Found}
 use Rattle.image.proofs.RightsBits.{from-bits}
@@ -26,7 +26,7 @@ use Rattle.image.proofs.found.found_at.Tie as tie
 
 -- what is to be found, where the walk says `s`
 abbrev wanted : tie.Start → List ℕ → Walked → Found
-wanted c t s = foundOf (answerAt (pagesOf 4 (now (c .args .image)) (c .args .base) t) (c .args .page) (stateOf s))
+wanted c t s = foundOf (answerAt (imagePages 4 (now (c .args .image)) (c .args .base) t) (c .args .page) (stateOf s))
 
 -- it is what the number says
 by-number : (c : tie.Start) (t : List ℕ) (kind : ℕ) → packed (walk (entry 52 true) (tableAt (now (c .args .image)) (c .args .base)) 4 t allRights (c .args .page)) ≡ c .args .walked

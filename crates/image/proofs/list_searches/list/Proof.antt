@@ -15,8 +15,8 @@ use Rattle.mapping.proofs.Walk.{spanned}
 use Rattle.addr.specs.Item.{Item}
 use Rattle.image.specs.Entry.{entry}
 use Rattle.image.specs.Memory.{tableAt}
-use Rattle.image.specs.Search.{pagesOf}
-use Rattle.image.specs.Found.{foundOf, Answers}
+use Rattle.image.specs.Search.{imagePages}
+use Rattle.image.specs.Found.{foundOf, OfAnswer}
 use Rattle.image.specs.List.{settled, listing}
 use Rattle.image.proofs.Refused.{search-given}
 use Rattle.image.proofs.ListKept.{kept, page-after}
@@ -28,7 +28,7 @@ use Rattle.image.proofs.list_searches.list.Tie as tie
 
 abbrev Inv-loop : tie.InvT-loop
 Inv-loop image base root out₀ refused at₀ written₀ used₀ out at written used =
-    (t : List ℕ) × (tableAt image (base .0) (root .0) ≡ some t) × Turn (pagesOf 4 image (base .0) t) at₀ out₀ out at written used
+    (t : List ℕ) × (tableAt image (base .0) (root .0) ≡ some t) × Turn (imagePages 4 image (base .0) t) at₀ out₀ out at written used
 
 abbrev μ-loop : tie.MeasureT-loop
 μ-loop image base root out₀ refused at₀ written₀ used₀ out at written used = 2 ^ 36 - at
@@ -49,12 +49,12 @@ loop-holds : tie.Need-loop-holds Inv-loop μ-loop
 loop-holds c =
     let a = c .before .before .before .before .before .args in
     let z = sym (c .before .before .search-refusal .ensures) ∙ c .before .if1 .left in
-    let (t, i, g) = search-given (now (a .image)) (a .base .0) (a .root .0) (a .page .0) (λ v. gives (pagesOf 4 (now (a .image)) (a .base .0) v)) z in
-    (t, i, first-turn (pagesOf 4 (now (a .image)) (a .base .0) t) (c .page-number .result) (now (a .out)) (omega arith))
+    let (t, i, g) = search-given (now (a .image)) (a .base .0) (a .root .0) (a .page .0) (λ v. gives (imagePages 4 (now (a .image)) (a .base .0) v)) z in
+    (t, i, first-turn (imagePages 4 (now (a .image)) (a .base .0) t) (c .page-number .result) (now (a .out)) (omega arith))
 
 -- the pages of the image and the answer of the search, at a turn of the loop
 abbrev pages : tie.At-loop Inv-loop μ-loop → Space
-pages c = let a = c .before .before .before .before .before .before .args in pagesOf 4 (now (a .image)) (a .base .0) (c .loop .inv .0)
+pages c = let a = c .before .before .before .before .before .before .args in imagePages 4 (now (a .image)) (a .base .0) (c .loop .inv .0)
 
 abbrev answer : tie.At-loop Inv-loop μ-loop → Answer
 answer c = runs.search (pages c) (c .loop .at)
@@ -75,8 +75,8 @@ given c =
 sub-if2 : tie.Need-sub-if2 Inv-loop μ-loop
 sub-if2 c = omega (arith, turns.same-length (c .before .loop .inv .2))
 
-page-at-requires : tie.Need-page-at-requires Inv-loop μ-loop
-page-at-requires c κs = search needs
+numbered-page-requires : tie.Need-numbered-page-requires Inv-loop μ-loop
+numbered-page-requires c κs = search needs
 
 same-length : tie.Need-same-length Inv-loop μ-loop
 same-length c = turns.same-length (c .before .before .before .loop .inv .2)
@@ -84,7 +84,7 @@ same-length c = turns.same-length (c .before .before .before .loop .inv .2)
 returns-2 : tie.Need-returns-2 Inv-loop μ-loop
 returns-2 c =
     let b = c .before .before .before in
-    ap (λ (k : Item). record { answer = gives (record { written = b .loop .written; next = some k }); words = b .loop .out }) (c .page-at .ensures)
+    ap (λ (k : Item). record { answer = gives (record { written = b .loop .written; next = some k }); words = b .loop .out }) (c .numbered-page .ensures)
     ∙ full (b .loop .inv .2) (c .before .before .loop-test .taken) (c .before .if2 .taken)
     ∙ given b
 
@@ -94,7 +94,7 @@ find-requires c κs = search needs
 found : (c : tie.After-find Inv-loop μ-loop) → c .find .result ≡ foundOf (answer (c .before .before .before))
 found c = let (t, i, u) = c .before .before .before .loop .inv in c .find .ensures t i
 
-answers : (c : tie.After-find Inv-loop μ-loop) → Answers (c .find .result)
+answers : (c : tie.After-find Inv-loop μ-loop) → OfAnswer (c .find .result)
 answers c =
     let b = c .before .before .before in
     let a = b .before .before .before .before .before .before .args in
@@ -156,7 +156,7 @@ list-spec =
     page-number-requires
     loop-holds
     sub-if2
-    page-at-requires
+    numbered-page-requires
     same-length
     returns-2
     find-requires

@@ -12,8 +12,8 @@ use Rattle.image.proofs.ListWords.{five-words, five-stores}
 use Rattle.image.proofs.list_searches.store.Statement.{statement}
 use Rattle.image.proofs.list_searches.store.Tie as tie
 
-page-at-requires : tie.Need-page-at-requires
-page-at-requires c κs = let s = c .before in page-bound (s .args .found) (s .pre .1)
+numbered-page-requires : tie.Need-numbered-page-requires
+numbered-page-requires c κs = let s = c .before in page-bound (s .args .found) (s .pre .1)
 
 mul-place : tie.Need-mul-place
 mul-place c = let s = c .before .before .before .before in omega (arith, run-bounds (s .args .found) (s .pre .1) (c .before .if1 .taken))
@@ -66,16 +66,16 @@ same-length c = search needs
 returns : tie.Need-returns
 returns c a e =
     let b = c .before .before .before .args in
-    five-stores (b .out .now) (b .at) (b .found .kind) (c .before .page-at .result .«start_address» .0) (c .if1 .place) (b .found .count) (b .found .rights) (omega arith)
+    five-stores (b .out .now) (b .at) (b .found .kind) (c .before .numbered-page .result .«start_address» .0) (c .if1 .place) (b .found .count) (b .found .rights) (omega arith)
     ∙ ap (λ (l : List ℕ). take (b .at) (b .out .now) ++ (l ++ drop (b .at + 5) (b .out .now)))
-    (five-words (b .found) a (c .before .page-at .result .«start_address» .0) (c .if1 .place) e (ap (λ (i : Item). i .start) (c .before .page-at .ensures))
+    (five-words (b .found) a (c .before .numbered-page .result .«start_address» .0) (c .if1 .place) e (ap (λ (i : Item). i .start) (c .before .numbered-page .ensures))
     (λ k. ⊎-elim (λ w. omega arith) (λ w. omega arith) (c .if1 .came)) (λ k. ⊎-elim (λ w. omega arith) (λ w. omega arith) (c .if1 .came)))
 
 pub store-spec : {M : Type 1} → statement M
 store-spec =
     tie.close
     (tie.spec
-    page-at-requires
+    numbered-page-requires
     mul-place
     mul-out
     slice-write-out

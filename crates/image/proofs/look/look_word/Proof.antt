@@ -6,7 +6,7 @@ use native.Mathlib.Omega.{arith}
 use lib.Bits.{bitAnd, and-mask, and-le-l}
 use lib.Pow.{pow-pos}
 use borrow.Author.Needs.{needs}
-use Rattle.mapping.specs.Walk.{pagesOf}
+use Rattle.mapping.specs.Walk.{spanPages}
 use Rattle.image.specs.Entry.{set}
 use Rattle.image.proofs.Fields.{entry-absent, entry-page, entry-too-high, entry-table, entry-large, entry-reserved}
 use Rattle.image.proofs.look.look_word.Statement.{statement}
@@ -52,7 +52,7 @@ sub-t12 c = and-le-l (c .before .before .before .before .before .before .frame-i
 -- the mask takes how far into the span the frame is
 rest : (c : tie.After-span-pages)
     → (let a = c .before .before .before .before .before .before .before .before .args in
-    bitAnd (c .before .before .before .before .before .frame-in .result) (c .span-pages .result - 1) ≡ a .word / 2 ^ 12 % 2 ^ 40 % pagesOf (a .below))
+    bitAnd (c .before .before .before .before .before .frame-in .result) (c .span-pages .result - 1) ≡ a .word / 2 ^ 12 % 2 ^ 40 % spanPages (a .below))
 rest c =
     let a = c .before .before .before .before .before .before .before .before .args in
     rw (c .before .before .before .before .before .frame-in .ensures, c .span-pages .ensures) (and-mask (a .word / 2 ^ 12 % 2 ^ 40) (9 * a .below))
@@ -71,7 +71,7 @@ returns-4 : tie.Need-returns-4
 returns-4 c =
     let b = c .before .before .before .before .before .before in
     let a = b .before .before .before .args in
-    let l : 2 ≤ a .word / 2 ^ 12 % 2 ^ 40 % pagesOf (a .below) = rw (rest (c .before)) at (c .if5 .left) in
+    let l : 2 ≤ a .word / 2 ^ 12 % 2 ^ 40 % spanPages (a .below) = rw (rest (c .before)) at (c .if5 .left) in
     rw (entry-reserved (a .word) (a .below) (omega arith) (present (b .before)) (omega arith) (large (c .before .before .before)) (λ h. omega arith))
 
 address-in-requires : tie.Need-address-in-requires

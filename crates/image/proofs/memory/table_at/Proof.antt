@@ -6,7 +6,7 @@ use borrow.Author.Tests.{le-leb, lt-leb}
 use borrow.Author.Needs.{needs}
 use denote.Ref.{now}
 use lib.ListN.{length}
-use Rattle.image.specs.Memory.{place, tableAt}
+use Rattle.image.specs.Memory.{wordIndex, tableAt}
 use Rattle.image.proofs.memory.table_at.Statement.{statement}
 use Rattle.image.proofs.memory.table_at.Tie as tie
 
@@ -36,8 +36,8 @@ returns-2 : tie.Need-returns-2
 unfolding tableAt
 returns-2 c =
     let a = c .before .before .before .args in
-    let p : length (now (a .image)) < place (a .base) (a .table) + 512 = omega (arith, c .before .if2 .taken) in
-    simp (le-leb (a .base) (a .table) (c .before .before .if1 .left), lt-leb (place (a .base) (a .table) + 512) (length (now (a .image))) p)
+    let p : length (now (a .image)) < wordIndex (a .base) (a .table) + 512 = omega (arith, c .before .if2 .taken) in
+    simp (le-leb (a .base) (a .table) (c .before .before .if1 .left), lt-leb (wordIndex (a .base) (a .table) + 512) (length (now (a .image))) p)
 
 sub-if3 : tie.Need-sub-if3
 sub-if3 c = search needs
@@ -55,8 +55,8 @@ returns-3 : tie.Need-returns-3
 unfolding tableAt
 returns-3 c =
     let a = c .before .before .before .before .args in
-    let p : length (now (a .image)) < place (a .base) (a .table) + 512 = omega (arith, c .before .before .if2 .left, c .before .if3 .taken) in
-    simp (le-leb (a .base) (a .table) (c .before .before .before .if1 .left), lt-leb (place (a .base) (a .table) + 512) (length (now (a .image))) p)
+    let p : length (now (a .image)) < wordIndex (a .base) (a .table) + 512 = omega (arith, c .before .before .if2 .left, c .before .if3 .taken) in
+    simp (le-leb (a .base) (a .table) (c .before .before .before .if1 .left), lt-leb (wordIndex (a .base) (a .table) + 512) (length (now (a .image))) p)
 
 add-result : tie.Need-add-result
 add-result c = search needs
@@ -77,10 +77,10 @@ returns-4 : tie.Need-returns-4
 unfolding tableAt
 returns-4 c =
     let a = c .before .before .before .before .args in
-    let p : place (a .base) (a .table) + 512 ≤ length (now (a .image)) = omega (arith, c .before .before .if2 .left, c .before .if3 .left) in
+    let p : wordIndex (a .base) (a .table) + 512 ≤ length (now (a .image)) = omega (arith, c .before .before .if2 .left, c .before .if3 .left) in
     simp (
       le-leb (a .base) (a .table) (c .before .before .before .if1 .left),
-      le-leb (place (a .base) (a .table) + 512) (length (now (a .image))) p,
+      le-leb (wordIndex (a .base) (a .table) + 512) (length (now (a .image))) p,
       add-sub-cancel-left,
     )
 

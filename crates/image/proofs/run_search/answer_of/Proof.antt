@@ -17,11 +17,11 @@ same-run i j l = cc
 returns : tie.Need-returns
 returns c a e = reported-end (c .before .args .found) a e (c .if1 .taken)
 
-page-at-requires : tie.Need-page-at-requires
-page-at-requires c κs = let s = c .before in page-bound (s .args .found) (s .pre)
+numbered-page-requires : tie.Need-numbered-page-requires
+numbered-page-requires c κs = let s = c .before in page-bound (s .args .found) (s .pre)
 
-frame-at-requires : tie.Need-frame-at-requires
-frame-at-requires c κs = let s = c .before .before .before in run-bounds (s .args .found) (s .pre) (c .if2 .taken) .1
+numbered-frame-requires : tie.Need-numbered-frame-requires
+numbered-frame-requires c κs = let s = c .before .before .before in run-bounds (s .args .found) (s .pre) (c .if2 .taken) .1
 
 rights-from-requires : tie.Need-rights-from-requires
 rights-from-requires c κs = search needs
@@ -29,25 +29,25 @@ rights-from-requires c κs = search needs
 returns-2 : tie.Need-returns-2
 returns-2 c a e =
     let s = c .before .before .before .before .before in
-    same-run (c .before .before .before .page-at .ensures) (c .before .frame-at .ensures) (c .rights-from .ensures) ∙ reported-run (s .args .found) a e (c .before .before .if2 .taken)
+    same-run (c .before .before .before .numbered-page .ensures) (c .before .numbered-frame .ensures) (c .rights-from .ensures) ∙ reported-run (s .args .found) a e (c .before .before .if2 .taken)
 
 returns-3 : tie.Need-returns-3
 returns-3 c a e =
     let f = c .before .before .before .before .args .found in
-    ap (λ (i : Item). gives (stop i (f .place) reserved)) (c .before .before .page-at .ensures) ∙ reported-reserved f a e (c .if3 .taken)
+    ap (λ (i : Item). gives (stop i (f .place) reserved)) (c .before .before .numbered-page .ensures) ∙ reported-reserved f a e (c .if3 .taken)
 
 returns-4 : tie.Need-returns-4
 returns-4 c a e =
     let f = c .before .before .before .before .args .found in
-    ap (λ (i : Item). gives (stop i (f .place) outside)) (c .before .before .page-at .ensures) ∙ reported-outside f a e (c .before .before .before .if1 .left) (c .before .if2 .left) (c .if3 .left)
+    ap (λ (i : Item). gives (stop i (f .place) outside)) (c .before .before .numbered-page .ensures) ∙ reported-outside f a e (c .before .before .before .if1 .left) (c .before .if2 .left) (c .if3 .left)
 
 pub answer-of-spec : {M : Type 1} → statement M
 answer-of-spec =
     tie.close
     (tie.spec
     returns
-    page-at-requires
-    frame-at-requires
+    numbered-page-requires
+    numbered-frame-requires
     rights-from-requires
     returns-2
     returns-3

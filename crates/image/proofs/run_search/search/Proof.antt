@@ -9,7 +9,7 @@ use denote.Ref.{now}
 use Rattle.answer.specs.Outcome.{Outcome, gives}
 use Rattle.mapping.specs.Search as runs
 use Rattle.image.specs.Memory.{tableAt}
-use Rattle.image.specs.Search.{Report, report, pagesOf, searching}
+use Rattle.image.specs.Search.{Report, report, imagePages, searching}
 use Rattle.image.specs.Translate.{pageNumber}
 use Rattle.image.proofs.ListKept.{kept}
 use Rattle.image.proofs.Refused.{search-refused, search-given}
@@ -18,7 +18,7 @@ use Rattle.image.proofs.run_search.search.Tie as tie
 
 -- what follows on what is not refused, with the root's words
 abbrev follows : List ℕ → (base a : ℕ) → List ℕ → Outcome Report
-follows image base a t = gives (report 48 (runs.search (pagesOf 4 image base t) (pageNumber 48 a)))
+follows image base a t = gives (report 48 (runs.search (imagePages 4 image base t) (pageNumber 48 a)))
 
 search-refusal-requires : tie.Need-search-refusal-requires
 search-refusal-requires c κs = search needs
@@ -52,7 +52,7 @@ answer-of-requires c κs =
     let a = k .before .before .before .args in
     let (t, h, g) = given k in
     let p = c .before .page-number .result in
-    (runs.search (pagesOf 4 (now (a .image)) (a .base .0) t) p, kept (now (a .image)) (a .base .0) t p (omega (arith, c .before .page-number .ensures)), c .find .ensures t h)
+    (runs.search (imagePages 4 (now (a .image)) (a .base .0) t) p, kept (now (a .image)) (a .base .0) t p (omega (arith, c .before .page-number .ensures)), c .find .ensures t h)
 
 returns-2 : tie.Need-returns-2
 returns-2 c =
@@ -60,7 +60,7 @@ returns-2 c =
     let a = k .before .before .before .args in
     let (t, h, g) = given k in
     c .answer-of .ensures _ (c .before .find .ensures t h)
-    ∙ ap (λ (p : ℕ). gives (report 48 (runs.search (pagesOf 4 (now (a .image)) (a .base .0) t) p))) (c .before .before .page-number .ensures)
+    ∙ ap (λ (p : ℕ). gives (report 48 (runs.search (imagePages 4 (now (a .image)) (a .base .0) t) p))) (c .before .before .page-number .ensures)
     ∙ sym g
 
 pub search-spec : {M : Type 1} → statement M

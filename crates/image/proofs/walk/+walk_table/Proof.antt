@@ -12,7 +12,7 @@ use lib.Pow.{pow-pos}
 use borrow.Author.Needs.{needs}
 use borrow.Fn.Kinds.{In}
 use borrow.Fn.PlainCycle.{Measures, is, falls, and}
-use Rattle.mapping.specs.Walk.{joined, pagesOf, follow, walk}
+use Rattle.mapping.specs.Walk.{joined, spanPages, follow, walk}
 use Rattle.image.specs.Entry.{entry, rightsOf}
 use Rattle.image.specs.Memory.{tableAt}
 use Rattle.image.specs.Packed.{rightsBits, rightsOver, packed}
@@ -212,7 +212,7 @@ walk-table-returns-4 t c =
     let h : a .level ≡ a .level - 1 + 1 = omega (arith, k .before .before .pre .1 .0) in
     let r = joined (rightsOver (a .all) (a .any)) (rightsOf v) in
     rw (w, b)
-    (ap (λ (l : ℕ). 256 * (g + a .page % pagesOf (a .level - 1)) + 32 * rightsBits r + 4 * l + 3) h ∙ told t k (look.Leaf g v) (f .found .given .1))
+    (ap (λ (l : ℕ). 256 * (g + a .page % spanPages (a .level - 1)) + 32 * rightsBits r + 4 * l + 3) h ∙ told t k (look.Leaf g v) (f .found .given .1))
 
 walk-table-returns-5 : (t : ℕ) → walk-table-lts.Need-returns-5 (calls t) (walk-table-at t) walk-table.Post
 walk-table-returns-5 t c =

@@ -13,16 +13,16 @@ returns-2 c = simp (lt-ltb _ _ (c .before .if1 .left), le-ltb _ _ (c .if2 .taken
 assembled-requires : tie.Need-assembled-requires
 assembled-requires c κs = search needs
 
-page-at-requires : tie.Need-page-at-requires
-page-at-requires c κs = search needs
+truncated-page-requires : tie.Need-truncated-page-requires
+truncated-page-requires c κs = search needs
 
 returns-3 : tie.Need-returns-3
 returns-3 c =
     simp (
       lt-ltb _ _ (c .before .before .before .if1 .left),
       lt-ltb _ _ (c .before .before .if2 .left),
-    ) (rw (c .before .assembled .ensures) at (c .page-at .ensures))
+    ) (rw (c .before .assembled .ensures) at (c .truncated-page .ensures))
 
 pub page-1gib-spec : {M : Type 1} → statement M
 page-1gib-spec =
-    tie.close (tie.spec returns returns-2 assembled-requires page-at-requires returns-3)
+    tie.close (tie.spec returns returns-2 assembled-requires truncated-page-requires returns-3)

@@ -21,8 +21,8 @@ returns-3 c =
 assembled-requires : tie.Need-assembled-requires
 assembled-requires c κs = search needs
 
-page-at-requires : tie.Need-page-at-requires
-page-at-requires c κs = search needs
+truncated-page-requires : tie.Need-truncated-page-requires
+truncated-page-requires c κs = search needs
 
 returns-4 : tie.Need-returns-4
 returns-4 c =
@@ -30,8 +30,8 @@ returns-4 c =
       lt-ltb _ _ (c .before .before .before .before .if1 .left),
       lt-ltb _ _ (c .before .before .before .if2 .left),
       lt-ltb _ _ (c .before .before .if3 .left),
-    ) (rw (c .before .assembled .ensures) at (c .page-at .ensures))
+    ) (rw (c .before .assembled .ensures) at (c .truncated-page .ensures))
 
 pub page-2mib-spec : {M : Type 1} → statement M
 page-2mib-spec =
-    tie.close (tie.spec returns returns-2 returns-3 assembled-requires page-at-requires returns-4)
+    tie.close (tie.spec returns returns-2 returns-3 assembled-requires truncated-page-requires returns-4)

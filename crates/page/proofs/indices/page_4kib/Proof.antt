@@ -30,8 +30,8 @@ returns-4 c =
 assembled-requires : tie.Need-assembled-requires
 assembled-requires c κs = search needs
 
-page-at-requires : tie.Need-page-at-requires
-page-at-requires c κs = search needs
+truncated-page-requires : tie.Need-truncated-page-requires
+truncated-page-requires c κs = search needs
 
 returns-5 : tie.Need-returns-5
 returns-5 c =
@@ -40,9 +40,9 @@ returns-5 c =
       lt-ltb _ _ (c .before .before .before .before .if2 .left),
       lt-ltb _ _ (c .before .before .before .if3 .left),
       lt-ltb _ _ (c .before .before .if4 .left),
-    ) (rw (c .before .assembled .ensures) at (c .page-at .ensures))
+    ) (rw (c .before .assembled .ensures) at (c .truncated-page .ensures))
 
 pub page-4kib-spec : {M : Type 1} → statement M
 page-4kib-spec =
     tie.close
-    (tie.spec returns returns-2 returns-3 returns-4 assembled-requires page-at-requires returns-5)
+    (tie.spec returns returns-2 returns-3 returns-4 assembled-requires truncated-page-requires returns-5)

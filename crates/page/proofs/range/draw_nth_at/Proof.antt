@@ -29,11 +29,11 @@ front-below-requires c κs = search needs
 page-answer-requires : tie.Need-page-answer-requires
 page-answer-requires c κs = search needs
 
-page-at-size-requires : tie.Need-page-at-size-requires
-page-at-size-requires c κs = search needs
+page-at-requires : tie.Need-page-at-requires
+page-at-requires c κs = search needs
 
-page-at-size-requires-2 : tie.Need-page-at-size-requires-2
-page-at-size-requires-2 c κs = search needs
+page-at-requires-2 : tie.Need-page-at-requires-2
+page-at-requires-2 c κs = search needs
 
 returns-3 : tie.Need-returns-3
 returns-3 c =
@@ -43,8 +43,8 @@ returns-3 c =
     let x = accepted v (r .start) (r .end) p in
     rw (
       c .before .before .page-answer .ensures,
-      c .before .page-at-size .ensures,
-      c .page-at-size2 .ensures,
+      c .before .page-at .ensures,
+      c .page-at2 .ensures,
     ) (ap (λ (d : draw.Draw). settled (widthOf v) r false d) (c .before .before .before .front-below .ensures) ∙ nth-settled v r (c .before .before .before .before .before .before .before .before .before .before .args .n) p (sym (c .before .before .before .before .before .gap-front-below .ensures) ∙ c .before .before .before .before .if2 .left))
 
 pub draw-nth-at-spec : {M : Type 1} → statement M
@@ -57,6 +57,6 @@ draw-nth-at-spec =
     returns-2
     front-below-requires
     page-answer-requires
-    page-at-size-requires
-    page-at-size-requires-2
+    page-at-requires
+    page-at-requires-2
     returns-3)

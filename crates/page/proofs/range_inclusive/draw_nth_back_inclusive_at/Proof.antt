@@ -29,11 +29,11 @@ back-through-requires c κs = search needs
 page-answer-requires : tie.Need-page-answer-requires
 page-answer-requires c κs = search needs
 
-page-at-size-requires : tie.Need-page-at-size-requires
-page-at-size-requires c κs = search needs
+page-at-requires : tie.Need-page-at-requires
+page-at-requires c κs = search needs
 
-page-at-size-requires-2 : tie.Need-page-at-size-requires-2
-page-at-size-requires-2 c κs = search needs
+page-at-requires-2 : tie.Need-page-at-requires-2
+page-at-requires-2 c κs = search needs
 
 returns-3 : tie.Need-returns-3
 returns-3 c =
@@ -42,8 +42,8 @@ returns-3 c =
     let p = sym (c .before .before .before .before .before .before .before .pages-refusal .ensures) ∙ c .before .before .before .before .before .before .if1 .left in
     rw (
       c .before .before .page-answer .ensures,
-      c .before .page-at-size .ensures,
-      c .page-at-size2 .ensures,
+      c .before .page-at .ensures,
+      c .page-at2 .ensures,
     ) (ap (λ (d : draw.Draw). settledInclusive (widthOf v) r false d) (c .before .before .before .back-through .ensures) ∙ nth-back-inclusive-settled v r (c .before .before .before .before .before .before .before .before .before .before .args .n) p (sym (c .before .before .before .before .before .gap-back-through .ensures) ∙ c .before .before .before .before .if2 .left))
 
 pub draw-nth-back-inclusive-at-spec : {M : Type 1} → statement M
@@ -56,6 +56,6 @@ draw-nth-back-inclusive-at-spec =
     returns-2
     back-through-requires
     page-answer-requires
-    page-at-size-requires
-    page-at-size-requires-2
+    page-at-requires
+    page-at-requires-2
     returns-3)

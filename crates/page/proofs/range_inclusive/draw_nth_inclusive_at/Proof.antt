@@ -45,11 +45,11 @@ front-through-requires c κs = search needs
 page-answer-requires : tie.Need-page-answer-requires
 page-answer-requires c κs = search needs
 
-page-at-size-requires : tie.Need-page-at-size-requires
-page-at-size-requires c κs = search needs
+page-at-requires : tie.Need-page-at-requires
+page-at-requires c κs = search needs
 
-page-at-size-requires-2 : tie.Need-page-at-size-requires-2
-page-at-size-requires-2 c κs = search needs
+page-at-requires-2 : tie.Need-page-at-requires-2
+page-at-requires-2 c κs = search needs
 
 returns-3 : tie.Need-returns-3
 returns-3 c =
@@ -60,8 +60,8 @@ returns-3 c =
     let t : 18446744073709551615 - (c .before .before .before .before .bytes .result - 1) ≡ topPage (bytes (r .start)) = omega (arith, c .before .before .before .before .bytes .ensures, x .first, x .ends .some) in
     rw (
       c .before .before .page-answer .ensures,
-      c .before .page-at-size .ensures,
-      c .page-at-size2 .ensures,
+      c .before .page-at .ensures,
+      c .page-at2 .ensures,
     ) (ap (λ (d : draw.Draw). settledInclusive (widthOf v) r false d) ((rw t at (c .before .before .before .front-through .ensures))) ∙ nth-inclusive-settled v r (c .before .before .before .before .before .before .before .before .before .before .before .args .n) p (sym (c .before .before .before .before .before .before .gap-front-through .ensures) ∙ c .before .before .before .before .before .if2 .left))
 
 pub draw-nth-inclusive-at-spec : {M : Type 1} → statement M
@@ -77,6 +77,6 @@ draw-nth-inclusive-at-spec =
     sub-front-through-2
     front-through-requires
     page-answer-requires
-    page-at-size-requires
-    page-at-size-requires-2
+    page-at-requires
+    page-at-requires-2
     returns-3)

@@ -32,11 +32,11 @@ returns-2 c =
     let q : refuses sizesDiffer ≡ unless sizesDiffer (eqb (bytes x) 0x20_0000) (gives (ends (item (start x) 0x1000) (item (start y) 0x1000))) = simp (ne-eqb (bytes x) 0x20_0000 (λ e. c .if2 .taken (c .before .bytes .ensures ∙ e))) in
     q ∙ items-given (virt 48) (virt-argument 48) _ _ _ _ (unless sizesDiffer (eqb (bytes x) 0x20_0000) (gives (ends (item (start x) 0x1000) (item (start y) 0x1000)))) (sym (c .before .before .before .pages-refusal .ensures) ∙ c .before .before .if1 .left)
 
-page-at-size-requires : tie.Need-page-at-size-requires
-page-at-size-requires c κs = search needs
+page-at-requires : tie.Need-page-at-requires
+page-at-requires c κs = search needs
 
-page-at-size-requires-2 : tie.Need-page-at-size-requires-2
-page-at-size-requires-2 c κs = search needs
+page-at-requires-2 : tie.Need-page-at-requires-2
+page-at-requires-2 c κs = search needs
 
 returns-3 : tie.Need-returns-3
 returns-3 c =
@@ -45,8 +45,8 @@ returns-3 c =
     let y = b .args .self .end in
     let q : gives (ends (item (start x) 0x1000) (item (start y) 0x1000)) ≡ unless sizesDiffer (eqb (bytes x) 0x20_0000) (gives (ends (item (start x) 0x1000) (item (start y) 0x1000))) = simp (eq-eqb (bytes x) 0x20_0000 (sym (c .before .before .before .bytes .ensures) ∙ c .before .before .if2 .left)) in
     rw (
-      c .before .page-at-size .ensures,
-      c .page-at-size2 .ensures,
+      c .before .page-at .ensures,
+      c .page-at2 .ensures,
     ) (q ∙ items-given (virt 48) (virt-argument 48) _ _ _ _ (unless sizesDiffer (eqb (bytes x) 0x20_0000) (gives (ends (item (start x) 0x1000) (item (start y) 0x1000)))) (sym (c .before .before .before .before .before .pages-refusal .ensures) ∙ c .before .before .before .before .if1 .left))
 
 pub as-4kib-page-range-spec : {M : Type 1} → statement M
@@ -57,6 +57,6 @@ as-4kib-page-range-spec =
     returns
     bytes-requires
     returns-2
-    page-at-size-requires
-    page-at-size-requires-2
+    page-at-requires
+    page-at-requires-2
     returns-3)
