@@ -1,26 +1,24 @@
 -- The test of an item handed in, as the code has it: one number, 0 where the item is none to refuse.
-use mathlib.Core.Path.{_≡_, refl, sym, ap, _∙_}
+use mathlib.Core.Path.{_≡_, refl}
 use mathlib.Core.Bool.{Bool, true, false}
 use Prim.Native.Nat.{ℕ, zero, suc, _+_, _-_, _*_, _%_, _^_, _≤_, _<_}
 use native.Mathlib.Omega.{arith}
 use lib.Dec.{eqb}
 use borrow.Author.Tests.{eqb-true, eq-eqb, ne-eqb, lt-ltb, le-ltb, le-leb, lt-leb}
-use Rattle.answer.specs.Outcome.{Outcome, gives, refuses, unless}
+use Rattle.answer.specs.Outcome.{Outcome, gives, refuses, unlessRefused}
 use Rattle.answer.specs.Refusal.{overflow, sizesDiffer}
 use Rattle.addr.specs.Address.{Addresses, virt, phys}
 use Rattle.addr.specs.Item.{item, givenItem, itemRefusal, plusItem, minusItem, givenItems, firstRefusal, itemsRefusal}
 use Rattle.addr.specs.Range.{refusedOr}
 
+-- a number that is not 0 refuses
+pub refused-unless : {A : Type 0} (k : ℕ) (o : Outcome A) → (k ≡ 0 → ⊥) → refuses k ≡ unlessRefused k o
+refused-unless zero o h = absurd (h refl)
+refused-unless (suc k) o h = refl
+
 module _ (s : Addresses) (a z : ℕ) where
-  -- another number refuses
   pub item-refused : {A : Type 0} (o : Outcome A) → (itemRefusal s a z ≡ 0 → ⊥) → refuses (itemRefusal s a z) ≡ givenItem s a z o
-  unfolding itemRefusal
-  item-refused o n = go (s .holds a) refl (eqb (a % z) 0) refl
-    where
-      go : (h : Bool) → s .holds a ≡ h → (t : Bool) → eqb (a % z) 0 ≡ t → refuses (itemRefusal s a z) ≡ givenItem s a z o
-      go true e true f = absurd (n (simp (e, f)))
-      go true e false f = simp (e, f)
-      go false e t f = simp e
+  item-refused o n = refused-unless (itemRefusal s a z) o n
 
   -- 0 lets pass: its address is one, and a multiple of its size
   pub item-passed : (s .argument ≡ 0 → ⊥) → itemRefusal s a z ≡ 0 → (s .holds a ≡ true) × (a % z ≡ 0)
@@ -68,69 +66,47 @@ module _ (s : Addresses) (a y b z : ℕ) where
     unfolding itemsRefusal
     items-differ q d = simp (p, q, ne-eqb y z d)
 
--- the ways through each call on items, for pages and frames alike. No space refuses with 0.
-module _ (s : Addresses) (n0 : s .argument ≡ 0 → ⊥) where
-  -- an item that passes goes on to what follows
-  pub item-given : {A : Type 0} (a z : ℕ) (o : Outcome A) → itemRefusal s a z ≡ 0 → o ≡ givenItem s a z o
-  item-given a z o r = let p = item-passed s a z n0 r in simp (p .0, eq-eqb (a % z) 0 (p .1))
+-- an item that passes goes on to what follows
+pub item-given : {A : Type 0} (s : Addresses) (n0 : s .argument ≡ 0 → ⊥) (a z : ℕ) (o : Outcome A) → itemRefusal s a z ≡ 0 → o ≡ givenItem s a z o
+item-given s n0 a z o r = rw r
 
-  module _ (a z n : ℕ) (r : itemRefusal s a z ≡ 0) where
-    pub plus-overflow : 2 ^ 64 ≤ a + n * z → refuses overflow ≡ plusItem s a z n
-    plus-overflow h = let p = item-passed s a z n0 r in simp (p .0, eq-eqb (a % z) 0 (p .1), le-ltb (a + n * z) (2 ^ 64) h)
+-- the ways through each call on items, for pages and frames alike
+module _ (s : Addresses) (n0 : s .argument ≡ 0 → ⊥) (a z n : ℕ) (r : itemRefusal s a z ≡ 0) where
+  pub plus-overflow : 2 ^ 64 ≤ a + n * z → refuses overflow ≡ plusItem s a z n
+  plus-overflow h = simp (r, le-ltb (a + n * z) (2 ^ 64) h)
 
-    pub plus-outside : a + n * z < 2 ^ 64 → s .holds (a + n * z) ≡ false → refuses (s .result) ≡ plusItem s a z n
-    plus-outside h f = let p = item-passed s a z n0 r in simp (p .0, eq-eqb (a % z) 0 (p .1), lt-ltb (a + n * z) (2 ^ 64) h, f)
+  pub plus-outside : a + n * z < 2 ^ 64 → s .holds (a + n * z) ≡ false → refuses (s .result) ≡ plusItem s a z n
+  plus-outside h f = simp (r, lt-ltb (a + n * z) (2 ^ 64) h, f)
 
-    pub plus-gives : a + n * z < 2 ^ 64 → s .holds (a + n * z) ≡ true → gives (item (a + n * z) z) ≡ plusItem s a z n
-    plus-gives h t = let p = item-passed s a z n0 r in simp (p .0, eq-eqb (a % z) 0 (p .1), lt-ltb (a + n * z) (2 ^ 64) h, t)
+  pub plus-gives : a + n * z < 2 ^ 64 → s .holds (a + n * z) ≡ true → gives (item (a + n * z) z) ≡ plusItem s a z n
+  plus-gives h t = simp (r, lt-ltb (a + n * z) (2 ^ 64) h, t)
 
-    pub minus-overflow : a < n * z → refuses overflow ≡ minusItem s a z n
-    minus-overflow h = let p = item-passed s a z n0 r in simp (p .0, eq-eqb (a % z) 0 (p .1), lt-leb (n * z) a h)
+  pub minus-overflow : a < n * z → refuses overflow ≡ minusItem s a z n
+  minus-overflow h = simp (r, lt-leb (n * z) a h)
 
-    pub minus-outside : n * z ≤ a → s .holds (a - n * z) ≡ false → refuses (s .result) ≡ minusItem s a z n
-    minus-outside h f = let p = item-passed s a z n0 r in simp (p .0, eq-eqb (a % z) 0 (p .1), le-leb (n * z) a h, f)
+  pub minus-outside : n * z ≤ a → s .holds (a - n * z) ≡ false → refuses (s .result) ≡ minusItem s a z n
+  minus-outside h f = simp (r, le-leb (n * z) a h, f)
 
-    pub minus-gives : n * z ≤ a → s .holds (a - n * z) ≡ true → gives (item (a - n * z) z) ≡ minusItem s a z n
-    minus-gives h t = let p = item-passed s a z n0 r in simp (p .0, eq-eqb (a % z) 0 (p .1), le-leb (n * z) a h, t)
+  pub minus-gives : n * z ≤ a → s .holds (a - n * z) ≡ true → gives (item (a - n * z) z) ≡ minusItem s a z n
+  minus-gives h t = simp (r, le-leb (n * z) a h, t)
 
-  -- two items handed in
-  module _ (a y b z : ℕ) where
-    pub items-passed : itemsRefusal s a y b z ≡ 0 → (itemRefusal s a y ≡ 0) × (itemRefusal s b z ≡ 0) × (y ≡ z)
-    unfolding itemsRefusal
-    items-passed r = go (itemRefusal s a y) refl (itemRefusal s b z) refl (eqb y z) refl
-      where
-        go : (m : ℕ) → itemRefusal s a y ≡ m → (n : ℕ) → itemRefusal s b z ≡ n → (t : Bool) → eqb y z ≡ t → (itemRefusal s a y ≡ 0) × (itemRefusal s b z ≡ 0) × (y ≡ z)
-        go zero e zero f true g = (e, f, eqb-true y z g)
-        go zero e zero f false g = let q = simp (e, f, g) at r in absurd (omega arith)
-        go zero e (suc n) f t g = let q = simp (e, f) at r in absurd (omega arith)
-        go (suc m) e n f t g = let q = simp e at r in absurd (omega arith)
+-- two items handed in
+module _ (s : Addresses) (n0 : s .argument ≡ 0 → ⊥) (a y b z : ℕ) where
+  pub items-passed : itemsRefusal s a y b z ≡ 0 → (itemRefusal s a y ≡ 0) × (itemRefusal s b z ≡ 0) × (y ≡ z)
+  unfolding itemsRefusal
+  items-passed r = go (itemRefusal s a y) refl (itemRefusal s b z) refl (eqb y z) refl
+    where
+      go : (m : ℕ) → itemRefusal s a y ≡ m → (n : ℕ) → itemRefusal s b z ≡ n → (t : Bool) → eqb y z ≡ t → (itemRefusal s a y ≡ 0) × (itemRefusal s b z ≡ 0) × (y ≡ z)
+      go zero e zero f true g = (e, f, eqb-true y z g)
+      go zero e zero f false g = let q = simp (e, f, g) at r in absurd (omega arith)
+      go zero e (suc n) f t g = let q = simp (e, f) at r in absurd (omega arith)
+      go (suc m) e n f t g = let q = simp e at r in absurd (omega arith)
 
-    pub items-given : {A : Type 0} (o : Outcome A) → itemsRefusal s a y b z ≡ 0 → o ≡ givenItems s a y b z o
-    items-given o r =
-        let i = items-passed r in
-        let p = item-passed s a y n0 (i .0) in
-        let q = item-passed s b z n0 (i .1) in
-        simp (p .0, eq-eqb (a % y) 0 (p .1), q .0, eq-eqb (b % z) 0 (q .1), eq-eqb y z (i .2))
+  pub items-given : {A : Type 0} (o : Outcome A) → itemsRefusal s a y b z ≡ 0 → o ≡ givenItems s a y b z o
+  items-given o r = rw r
 
-    pub items-refused : {A : Type 0} (o : Outcome A) → (itemsRefusal s a y b z ≡ 0 → ⊥) → refuses (itemsRefusal s a y b z) ≡ givenItems s a y b z o
-    unfolding itemsRefusal
-    items-refused {A} o x = go (itemRefusal s a y) refl (itemRefusal s b z) refl (eqb y z) refl
-      where
-        third : Outcome A
-        third = unless sizesDiffer (eqb y z) o
-
-        go : (m : ℕ) → itemRefusal s a y ≡ m → (n : ℕ) → itemRefusal s b z ≡ n → (t : Bool) → eqb y z ≡ t → refuses (itemsRefusal s a y b z) ≡ givenItems s a y b z o
-        go zero e zero f true g = absurd (x (simp (e, f, g)))
-        go zero e zero f false g =
-            let u : refuses sizesDiffer ≡ unless sizesDiffer (eqb y z) o = simp g in
-            let l : itemsRefusal s a y b z ≡ sizesDiffer = simp (e, f, g) in
-            ap refuses l ∙ u ∙ item-given b z third f ∙ item-given a y (givenItem s b z third) e
-        go zero e (suc n) f t g =
-            let u = item-refused s b z third (λ w. let k : suc n ≡ 0 = sym f ∙ w in omega arith) in
-            rw (e, f) ((rw f at u) ∙ item-given a y (givenItem s b z third) e)
-        go (suc m) e n f t g =
-            let u = item-refused s a y (givenItem s b z third) (λ w. let k : suc m ≡ 0 = sym e ∙ w in omega arith) in
-            rw e (rw e at u)
+  pub items-refused : {A : Type 0} (o : Outcome A) → (itemsRefusal s a y b z ≡ 0 → ⊥) → refuses (itemsRefusal s a y b z) ≡ givenItems s a y b z o
+  items-refused o x = refused-unless (itemsRefusal s a y b z) o x
 
 pub virt-argument : (w : ℕ) → virt w .argument ≡ 0 → ⊥
 virt-argument w e = omega arith

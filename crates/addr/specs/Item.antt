@@ -3,7 +3,7 @@
 use Prim.Native.Nat.{ℕ, zero, suc, _-_, _*_, _/_, _%_}
 use mathlib.Core.Bool.{cond}
 use lib.Dec.{leb, eqb}
-use Rattle.answer.specs.Outcome.{Outcome, gives, unless, andThen}
+use Rattle.answer.specs.Outcome.{Outcome, gives, unless, unlessRefused, andThen}
 use Rattle.answer.specs.Refusal.{notAligned, overflow, sizesDiffer}
 use Rattle.laws.specs.Align.{down}
 use Rattle.addr.specs.Address.{Addresses, given, sum, difference}
@@ -16,13 +16,13 @@ pub record Item : Type 0 where
 abbrev pub item : ℕ → ℕ → Item
 item a z = record { start = a; bytes = z }
 
--- a page or frame handed in: the refusal of its address, then "3 a start that is no multiple of its page size"; then what follows
-abbrev pub givenItem : {A : Type 0} → Addresses → ℕ → ℕ → Outcome A → Outcome A
-givenItem s a z o = given s a (unless notAligned (eqb (a % z) 0) o)
-
--- the number with which an item handed in is refused, 0 for none
+-- the number with which a page or frame handed in is refused, 0 for none: that of its address, then "3 a start that is no multiple of its page size"
 unfoldable pub itemRefusal : Addresses → ℕ → ℕ → ℕ
 itemRefusal s a z = cond (s .holds a) (cond (eqb (a % z) 0) 0 notAligned) (s .argument)
+
+-- a page or frame handed in, then what follows
+abbrev pub givenItem : {A : Type 0} → Addresses → ℕ → ℕ → Outcome A → Outcome A
+givenItem s a z o = unlessRefused (itemRefusal s a z) o
 
 -- "`from_start_address`: 3"
 abbrev pub fromStart : Addresses → ℕ → ℕ → Outcome Item
@@ -46,17 +46,18 @@ plusItem s a z n = givenItem s a z (andThen (sum s a (n * z)) (λ x. gives (item
 abbrev pub minusItem : Addresses → ℕ → ℕ → ℕ → Outcome Item
 minusItem s a z n = givenItem s a z (andThen (difference s a (n * z)) (λ x. gives (item x z)))
 
--- two items handed in: "7 if sizes differ"; then what follows
-abbrev pub givenItems : {A : Type 0} → Addresses → ℕ → ℕ → ℕ → ℕ → Outcome A → Outcome A
-givenItems s a y b z o = givenItem s a y (givenItem s b z (unless sizesDiffer (eqb y z) o))
-
--- the number with which two items handed in are refused, 0 for none: the first that is not 0
+-- the first of two numbers that refuses
 abbrev pub firstRefusal : ℕ → ℕ → ℕ
 firstRefusal zero m = m
 firstRefusal (suc n) m = suc n
 
+-- the number with which two items handed in are refused, 0 for none: that of the first, that of the second, then "7 if sizes differ"
 unfoldable pub itemsRefusal : Addresses → ℕ → ℕ → ℕ → ℕ → ℕ
 itemsRefusal s a y b z = firstRefusal (itemRefusal s a y) (firstRefusal (itemRefusal s b z) (cond (eqb y z) 0 sizesDiffer))
+
+-- two items handed in, then what follows
+abbrev pub givenItems : {A : Type 0} → Addresses → ℕ → ℕ → ℕ → ℕ → Outcome A → Outcome A
+givenItems s a y b z o = unlessRefused (itemsRefusal s a y b z) o
 
 -- "Frame minus frame: 7 if sizes differ, then 5"; "Page minus page: 7, then 5"
 abbrev pub distanceItem : Addresses → ℕ → ℕ → ℕ → ℕ → Outcome ℕ

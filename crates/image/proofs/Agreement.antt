@@ -7,7 +7,7 @@ use mathlib.Core.Option.{Option, some}
 use native.Mathlib.Omega.{arith}
 use native.Mathlib.Nat.{mod-lt, mod-eq-of-lt, mul-mod-left, mul-div-cancel}
 use borrow.Author.Tests.{eq-eqb}
-use lib.Pow.{field, shl-shr, high, pow-pos, pow-mono}
+use lib.Pow.{field, shl-shr, high, pow-pos, pow-add}
 use Rattle.answer.specs.Outcome.{Outcome, gives, refuses}
 use Rattle.laws.specs.Width.{IsWidth, low, signExtend}
 use Rattle.laws.specs.Number.{number, start}
@@ -18,20 +18,18 @@ use Rattle.mapping.specs.Pages as page
 use Rattle.mapping.specs.Search.{Answer, search}
 use Rattle.mapping.specs.Search as answer
 use Rattle.mapping.specs.Walk.{Walked, absent, broken, mapped, walk, allRights, stateOf}
-use Rattle.mapping.specs.Agreement.{Reply, answered, Calls, Agreement}
+use Rattle.mapping.specs.Agreement.{Calls, Agreement}
 use Rattle.mapping.proofs.Found.{Found, no-more, at-stop, at-run, finds}
 use Rattle.mapping.proofs.Walk.{walk-low, spanned}
-use Rattle.mapping.proofs.Calls.{agreement}
-use Rattle.addr.specs.Address.{virt, given}
-use Rattle.addr.specs.Item.{givenItem}
+use Rattle.mapping.proofs.Calls.{Searching, agreement}
+use Rattle.addr.specs.Item.{Item, itemRefusal}
 use Rattle.image.specs.Entry.{entry}
 use Rattle.image.specs.Memory.{tableAt}
-use Rattle.image.specs.Translate.{Translated, translated, givenImage, imageRefusal, pageNumber, translation}
-use Rattle.image.specs.Search.{Report, report, imagePages, searching}
+use Rattle.image.specs.Translate.{translated, imageRefusal, rootTable, pageNumber, translation}
+use Rattle.image.specs.Search.{Report, pageItem, frameItem, report, imagePages, searchRefusal, searching}
 use Rattle.addr.specs.declared.width.Width.the-variants.{Bits48}
 use Rattle.addr.proofs.Widths.{widths}
-use Rattle.image.specs.Agreement.{stateIn, translatedPages, answerIn, replyIn, callFrom, RunsAgree}
-use Rattle.image.proofs.Refused.{image-given}
+use Rattle.image.specs.Agreement.{stateIn, translatedPages, IsPage, IsFrame, Reported, Reports, callFrom, RunsAgree}
 
 -- the state that translation answers is the one that the walk says
 state-translated : (a : ℕ) (s : Walked) → stateIn (gives (translated a s)) ≡ stateOf s
@@ -45,6 +43,30 @@ PageBelow k answer.end = Unit {0}
 PageBelow k (answer.stop q l r) = q < k
 PageBelow k (answer.run q g c h) = q < k
 
+-- an item is one page, or one frame
+one-page : (w q o : ℕ) (p : Item) → IsPage w q p → IsPage w o p → q ≡ o
+one-page w q o p a b = omega (arith, a .low-start, b .low-start)
+
+-- a reply reports one answer
+one-answer : (w : ℕ) (r : Outcome Report) (a b : Answer) → Reports w r a → Reports w r b → a ≡ b
+one-answer w r answer.end answer.end x y = refl
+one-answer w r answer.end (answer.stop q l o) (u, d, e) (v, f, (p, z, g)) = absurd (let n : _≡_ {A = ℕ} 0 1 = cc in omega arith)
+one-answer w r answer.end (answer.run q g c h) (u, d, e) (v, f, (p, k, z, y, i)) = absurd (let n : _≡_ {A = ℕ} 0 1 = cc in omega arith)
+one-answer w r (answer.stop q l o) answer.end (v, f, (p, z, g)) (u, d, e) = absurd (let n : _≡_ {A = ℕ} 0 1 = cc in omega arith)
+one-answer w r (answer.stop q l o) (answer.stop q′ l′ o′) (v, f, (p, z, g)) (u, d, (p′, z′, e)) =
+    let s : p ≡ p′ = cc in
+    let n : q ≡ q′ = one-page w q q′ p z (rw (← s) at z′) in
+    cc
+one-answer w r (answer.stop q l o) (answer.run q′ g c h) (v, f, (p, z, e)) (u, d, (p′, k, z′, y, i)) = absurd (let n : _≡_ {A = ℕ} 0 1 = cc in omega arith)
+one-answer w r (answer.run q g c h) answer.end (u, d, (p, k, z, y, i)) (v, f, e) = absurd (let n : _≡_ {A = ℕ} 0 1 = cc in omega arith)
+one-answer w r (answer.run q g c h) (answer.stop q′ l o) (u, d, (p, k, z, y, i)) (v, f, (p′, z′, e)) = absurd (let n : _≡_ {A = ℕ} 0 1 = cc in omega arith)
+one-answer w r (answer.run q g c h) (answer.run q′ g′ c′ h′) (u, d, (p, k, z, y, i)) (v, f, (p′, k′, z′, y′, j)) =
+    let s : p ≡ p′ = cc in
+    let t : k ≡ k′ = cc in
+    let n : q ≡ q′ = one-page w q q′ p z (rw (← s) at z′) in
+    let m : g ≡ g′ = omega (arith, y .from-start, y′ .from-start, ap (λ (x : Item). x .start) t) in
+    cc
+
 module _ (w levels : ℕ) (v : IsWidth w) (e : w ≡ 9 * levels + 12) where
   -- the page that starts where page n does
   number-of : (n : ℕ) → pageNumber w (start w 4096 n) ≡ n % 2 ^ (9 * levels)
@@ -57,11 +79,16 @@ module _ (w levels : ℕ) (v : IsWidth w) (e : w ≡ 9 * levels + 12) where
   start-whole n =
       sym (low-multiple w 12 v (v .above) (start w 4096 n)) ∙ ap (λ (x : ℕ). x % 4096) (sign-low w v (n * 4096)) ∙ low-multiple w 12 v (v .above) (n * 4096) ∙ mul-mod-left n 4096
 
-  read-back : (a : Answer) → PageBelow (2 ^ (9 * levels)) a → answerIn w (report w a) ≡ a
+  is-page : (n : ℕ) → n < 2 ^ (9 * levels) → IsPage w n (pageItem w n)
+  is-page n h =
+      let b : n * 2 ^ 12 < 2 ^ w = rw (e, pow-add 2 (9 * levels) 12) (omega arith) in
+      record { canonical-start = sign-canonical w v (n * 4096); low-start = sign-low w v (n * 4096) ∙ mod-eq-of-lt b; size = refl }
+
+  report-exact : (a : Answer) → PageBelow (2 ^ (9 * levels)) a → Reported w a (report w a)
   unfolding PageBelow
-  read-back answer.end h = refl
-  read-back (answer.stop q l r) h = ap (λ (n : ℕ). answer.stop n l r) (number-back q h)
-  read-back (answer.run q g c k) h = ap (λ (n : ℕ). answer.run n (g * 4096 / 4096) c k) (number-back q h) ∙ ap (λ (n : ℕ). answer.run q n c k) (mul-div-cancel g (pow-pos 12))
+  report-exact answer.end h = refl
+  report-exact (answer.stop q l r) h = (pageItem w q, is-page q h, refl)
+  report-exact (answer.run q g c k) h = (pageItem w q, frameItem g, is-page q h, record { from-start = refl; size = refl }, refl)
 
   page-below : {s : Space} {p : ℕ} {a : Answer} → Found s p a → s .size ≡ 2 ^ (9 * levels) → PageBelow (2 ^ (9 * levels)) a
   unfolding PageBelow
@@ -69,7 +96,10 @@ module _ (w levels : ℕ) (v : IsWidth w) (e : w ≡ 9 * levels + 12) where
   page-below (at-stop f h) k = rw (← k) (f .inside)
   page-below (at-run f h) k = rw (← k) (f .inside)
 
-  module _ (image : List ℕ) (base root : ℕ) (t : List ℕ) (given-image : (A : Type 0) (f : List ℕ → Outcome A) → givenImage 52 image base root f ≡ f t) where
+  module _ (image : List ℕ) (base root : ℕ) (ok : imageRefusal image base root ≡ 0) where
+    abbrev t : List ℕ
+    t = rootTable image base root
+
     abbrev walked : ℕ → Walked
     walked n = walk (entry 52 true) (tableAt image base) levels t allRights n
 
@@ -80,8 +110,7 @@ module _ (w levels : ℕ) (v : IsWidth w) (e : w ≡ 9 * levels + 12) where
     unfolding translation
     page-state n =
         let a = start w 4096 n in
-        ap stateIn (given-image Translated (λ u. given (virt w) a (gives (translated a (walk (entry 52 true) (tableAt image base) levels u allRights (pageNumber w a))))))
-        ∙ rw (sign-canonical w v (n * 4096)) (state-translated a (walked (pageNumber w a)))
+        rw (ok, sign-canonical w v (n * 4096)) (state-translated a (walked (pageNumber w a)))
         ∙ ap (λ (x : ℕ). stateOf (walked x)) (number-of n)
         ∙ ap stateOf (walk-low (entry 52 true) (tableAt image base) levels levels t allRights n (omega arith))
 
@@ -89,30 +118,32 @@ module _ (w levels : ℕ) (v : IsWidth w) (e : w ≡ 9 * levels + 12) where
     same-pages : translatedPages w levels image base root ≡ pages
     same-pages = ap (λ (f : ℕ → PageState). record { page = f; size = 2 ^ (9 * levels); high = 2 ^ (9 * levels - 1); span = λ l. 2 ^ (9 * (l - 1)) }) (fun-ext page-state)
 
-    call-answered : (n : ℕ) → n < pages .size → callFrom w levels image base root n ≡ answered (search pages n)
-    unfolding searching
-    call-answered n h =
-        let a = start w 4096 n in
-        ap (replyIn w) (given-image Report (λ u. givenItem (virt w) a 0x1000 (gives (report w (search (imagePages levels image base u) (pageNumber w a))))))
-        ∙ rw (sign-canonical w v (n * 4096), eq-eqb (a % 4096) 0 (start-whole n)) refl
-        ∙ ap (λ (x : ℕ). answered (answerIn w (report w (search pages x)))) (number-back n h)
-        ∙ ap answered (read-back (search pages n) (page-below (finds pages (spanned (entry 52 true) (tableAt image base) levels t .halves) n (omega arith)) refl))
+    passed : (n : ℕ) → searchRefusal w image base root (start w 4096 n) ≡ 0
+    unfolding searchRefusal itemRefusal
+    passed n = simp (ok, sign-canonical w v (n * 4096), eq-eqb (start w 4096 n % 4096) 0 (start-whole n))
 
-    agrees : (replies : List Reply) (passed : ℕ) → Calls (translatedPages w levels image base root) (callFrom w levels image base root) 0 replies passed
-        → Agreement (translatedPages w levels image base root) (callFrom w levels image base root) replies passed
+    pub call-answered : (n : ℕ) → n < pages .size → callFrom w levels image base root n ≡ gives (report w (search pages n))
+    unfolding searching
+    call-answered n h = rw (passed n) (ap (λ (x : ℕ). gives (report w (search pages x))) (number-back n h))
+
+    pub calls-search : Searching pages (Reports w) (callFrom w levels image base root)
+    calls-search =
+        record {
+          one = one-answer w;
+          answer = λ n h.
+              (report w (search pages n), call-answered n h, report-exact (search pages n) (page-below (finds pages (spanned (entry 52 true) (tableAt image base) levels t .halves) n (omega arith)) refl));
+        }
+
+    agrees : (replies : List (Outcome Report)) (passed : ℕ) → Calls (translatedPages w levels image base root) (Reports w) (callFrom w levels image base root) 0 replies passed
+        → Agreement (translatedPages w levels image base root) (Reports w) (callFrom w levels image base root) replies passed
     agrees =
         let call = callFrom w levels image base root in
-        subst (λ (s : Space). (replies : List Reply) (passed : ℕ) → Calls s call 0 replies passed → Agreement s call replies passed) (sym same-pages)
-        (agreement pages (spanned (entry 52 true) (tableAt image base) levels t) call call-answered)
-
-same-table : {t u : List ℕ} → some t ≡ some u → t ≡ u
-same-table e = cc
+        subst (λ (s : Space). (replies : List (Outcome Report)) (passed : ℕ) → Calls s (Reports w) call 0 replies passed → Agreement s (Reports w) call replies passed) (sym same-pages)
+        (agreement pages (Reports w) call calls-search (spanned (entry 52 true) (tableAt image base) levels t))
 
 -- at every width and number of levels that fit each other
 pub runs-agree : (w levels : ℕ) → IsWidth w → w ≡ 9 * levels + 12 → RunsAgree w levels
-runs-agree w levels v e image base root ok =
-    let (t, h, g) = image-given image base root (λ u. gives u) ok in
-    agrees w levels v e image base root t (λ A f. let (t′, h′, g′) = image-given image base root f ok in g′ ∙ ap f (same-table (sym h′ ∙ h)))
+runs-agree = agrees
 
 pub runs-agree-48 : RunsAgree 48 4
 runs-agree-48 = runs-agree 48 4 (widths Bits48) refl

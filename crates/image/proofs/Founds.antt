@@ -2,13 +2,15 @@
 use Prim.Native.Nat.{ℕ, _+_, _-_, _*_, _/_, _^_, _≤_, _<_}
 use mathlib.Core.Path.{_≡_, refl, sym, ap, _∙_, subst}
 use native.Mathlib.Omega.{arith}
-use Rattle.mapping.specs.Pages.{Rights, Reason, reserved, outside}
-use Rattle.mapping.specs.Search.{Answer, end, stop, run}
+use mathlib.Core.List.{List}
+use Rattle.mapping.specs.Pages.{Rights, Reason, reserved, outside, Space}
+use Rattle.mapping.specs.Search.{Answer, end, stop, run, next}
 use Rattle.answer.specs.Outcome.{Outcome, gives}
 use Rattle.image.specs.Packed.{rightsBits, rightsFrom}
-use Rattle.image.specs.Search.{Report, report, pageItem, frameItem}
+use Rattle.image.specs.Span.{after}
+use Rattle.image.specs.Search.{Report, report, pageItem, frameItem, imagePages}
 use Rattle.image.specs.Search as reports
-use Rattle.image.specs.Found.{foundOf, Kept, OfAnswer, pageAfter}
+use Rattle.image.specs.Found.{foundOf, Kept, OfAnswer}
 use Rattle.image.specs.declared.found.Found.{Found}
 use Rattle.image.proofs.RightsBits.{bits-from}
 
@@ -27,29 +29,35 @@ kinds f (stop q l reserved) e = subst (λ (k : Found). Kinds k (stop q l reserve
 kinds f (stop q l outside) e = subst (λ (k : Found). Kinds k (stop q l outside)) (sym e) (stopped-outside refl)
 
 -- the page that it leaves, by its kind
-module _ (f : Found) (a : Answer) (e : f ≡ foundOf a) where
-  pub after-end : f .kind ≡ 0 → 2 ^ 36 ≡ pageAfter a
+module _ (f : Found) (image : List ℕ) (base : ℕ) (t : List ℕ) (a : Answer) (e : f ≡ foundOf a) where
+  abbrev pages : Space
+  pages = imagePages 4 image base t
+
+  pub after-end : f .kind ≡ 0 → 2 ^ 36 ≡ next pages a
+  unfolding next
   after-end k = go (kinds f a e)
     where
-      go : {b : Answer} → Kinds f b → 2 ^ 36 ≡ pageAfter b
+      go : {b : Answer} → Kinds f b → 2 ^ 36 ≡ next pages b
       go (ended z y) = refl
       go (ran h z r) = absurd (omega arith)
       go (stopped-reserved z) = absurd (omega arith)
       go (stopped-outside z) = absurd (omega arith)
 
-  pub after-run : f .kind ≡ 1 → f .page + f .count ≡ pageAfter a
+  pub after-run : f .kind ≡ 1 → f .page + f .count ≡ next pages a
+  unfolding next
   after-run k = go (kinds f a e)
     where
-      go : {b : Answer} → Kinds f b → f .page + f .count ≡ pageAfter b
+      go : {b : Answer} → Kinds f b → f .page + f .count ≡ next pages b
       go (ended z y) = absurd (omega arith)
       go (ran h z r) = refl
       go (stopped-reserved z) = absurd (omega arith)
       go (stopped-outside z) = absurd (omega arith)
 
-  pub after-stop : (f .kind ≡ 0 → ⊥) → (f .kind ≡ 1 → ⊥) → (f .page / 2 ^ (9 * (f .place - 1)) + 1) * 2 ^ (9 * (f .place - 1)) ≡ pageAfter a
+  pub after-stop : (f .kind ≡ 0 → ⊥) → (f .kind ≡ 1 → ⊥) → after (f .place - 1) (f .page) ≡ next pages a
+  unfolding next after
   after-stop n m = go (kinds f a e)
     where
-      go : {b : Answer} → Kinds f b → (f .page / 2 ^ (9 * (f .place - 1)) + 1) * 2 ^ (9 * (f .place - 1)) ≡ pageAfter b
+      go : {b : Answer} → Kinds f b → after (f .place - 1) (f .page) ≡ next pages b
       go (ended z y) = absurd (n z)
       go (ran h z r) = absurd (m z)
       go (stopped-reserved z) = refl

@@ -9,6 +9,5 @@ pub mod ScanRuns
 pub mod Founds
 pub mod ListKept
 pub mod ListWords
-pub mod ListRefused
 pub mod ListTurns
 pub mod Agreement

@@ -1,4 +1,4 @@
--- The answers of searches over the pages of an image: what holds of each, and the next page that it leaves.
+-- What holds of the answers of searches over the pages of an image.
 use Prim.Native.Nat.{ℕ, _^_, _≤_, _<_}
 use mathlib.Core.Path.{_≡_, refl}
 use mathlib.Core.Bool.{true}
@@ -6,7 +6,7 @@ use mathlib.Core.List.{List}
 use native.Mathlib.Omega.{arith}
 use Rattle.mapping.specs.Pages.{PageState, Space}
 use Rattle.mapping.specs.Pages as page
-use Rattle.mapping.specs.Search.{Answer, end, stop, run, search, next}
+use Rattle.mapping.specs.Search.{Answer, search}
 use Rattle.mapping.specs.Walk.{Walked, absent, broken, mapped, walk, allRights, stateOf}
 use Rattle.mapping.proofs.Found.{Found, no-more, at-stop, at-run, in-half, starts, finds}
 use Rattle.mapping.proofs.Walk.{broken-span, spanned}
@@ -14,7 +14,7 @@ use Rattle.image.specs.Entry.{entry}
 use Rattle.image.specs.Memory.{tableAt}
 use Rattle.image.specs.Packed.{Fits}
 use Rattle.image.specs.Search.{imagePages}
-use Rattle.image.specs.Found.{Kept, pageAfter}
+use Rattle.image.specs.Found.{Kept}
 use Rattle.image.proofs.Walked.{fits}
 
 -- a page's frame is below 2^40, a broken entry's level is 1 to 4
@@ -45,10 +45,3 @@ module _ (image : List ℕ) (base : ℕ) (t : List ℕ) where
           let k = rw (starts s st) at (kept-state q) in
           let b = in-half s (spanned (entry 52 true) (tableAt image base) 4 t .halves) q (fr .inside) in
           (fr .inside, k, omega arith)
-
-  -- the next page that an answer leaves is the one of the space
-  pub page-after : (a : Answer) → pageAfter a ≡ next (imagePages 4 image base t) a
-  unfolding next
-  page-after end = refl
-  page-after (stop q l r) = refl
-  page-after (run q g c h) = refl

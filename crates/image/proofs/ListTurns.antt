@@ -2,12 +2,12 @@
 use Prim.Native.Nat.{ℕ, _+_, _-_, _*_, _≤_, _<_}
 use mathlib.Core.Path.{_≡_, refl, sym, ap, _∙_}
 use mathlib.Core.Bool.{cond}
-use mathlib.Core.List.{List, [], _∷_, _++_, append-nil, append-assoc}
+use mathlib.Core.List.{List, [], _∷_, _++_, append-nil, append-assoc, map, map-append}
 use mathlib.Core.Option.{none, some}
 use native.Mathlib.Omega.{arith}
 use lib.Dec.{ltb}
 use borrow.Author.Tests.{lt-ltb, le-ltb}
-use lib.ListN.{length, length-append, length-drop, take, drop}
+use lib.ListN.{length, length-append, length-drop, length-map, take, drop}
 use lib.Seq.{take-at, drop-at, drop-drop}
 use Rattle.answer.specs.Outcome.{gives}
 use Rattle.mapping.specs.Pages.{Space, Spanned}
@@ -16,7 +16,7 @@ use Rattle.mapping.proofs.Found.{finds}
 use Rattle.mapping.proofs.Steps.{forward, next-inside}
 use Rattle.mapping.proofs.Some.{one-more, left-more, none-more, left-over, answers-add, left-add}
 use Rattle.image.specs.Search.{pageItem, report, reportWords}
-use Rattle.image.specs.List.{allWords, room, settled}
+use Rattle.image.specs.List.{allWords, reportsFrom, room, settled}
 use Rattle.image.proofs.ListWords.{all-length, all-append}
 
 -- after so many searches from page p, before the one from page x: their words, so many, stand at the start of the lent ones
@@ -26,19 +26,19 @@ pub record Turn (s : Space) (p : ℕ) (lent out : List ℕ) (x written used : �
   pub inside : x ≤ s .size
   pub left : leftAfter s written p ≡ x
   pub count : length (answersFrom s written p) ≡ written
-  pub words : out ≡ allWords 48 (answersFrom s written p) ++ drop used lent
+  pub words : out ≡ allWords (reportsFrom 48 s written p) ++ drop used lent
 
 pub first-turn : (s : Space) (p : ℕ) (lent : List ℕ) → p ≤ s .size → Turn s p lent lent p 0 0
 unfolding leftAfter answersFrom allWords
 first-turn s p lent i = record { five-each = refl; has-room = omega arith; inside = i; left = refl; count = refl; words = refl }
 
 module _ {s : Space} {p : ℕ} {lent out : List ℕ} {x written used : ℕ} (turn : Turn s p lent out x written used) where
-  words-used : length (allWords 48 (answersFrom s written p)) ≡ used
-  words-used = all-length (answersFrom s written p) ∙ omega (arith, turn .count, turn .five-each)
+  words-used : length (allWords (reportsFrom 48 s written p)) ≡ used
+  words-used = all-length (reportsFrom 48 s written p) ∙ omega (arith, length-map (answersFrom s written p) (report 48), turn .count, turn .five-each)
 
   pub same-length : length out ≡ length lent
   same-length =
-      ap length (turn .words) ∙ length-append (allWords 48 (answersFrom s written p)) (drop used lent)
+      ap length (turn .words) ∙ length-append (allWords (reportsFrom 48 s written p)) (drop used lent)
       ∙ omega (arith, words-used, length-drop used lent, turn .has-room)
 
   -- one more, with its words
@@ -56,15 +56,16 @@ module _ {s : Space} {p : ℕ} {lent out : List ℕ} {x written used : ℕ} (tur
         → Turn s p lent out′ (next s (search s x)) (written + 1) (used + 5)
     unfolding leftAfter allWords
     next-turn out′ h e =
-        let before : take used out ≡ allWords 48 (answersFrom s written p)
-        = ap (take used) (turn .words) ∙ take-at (allWords 48 (answersFrom s written p)) (drop used lent) used words-used in
+        let before : take used out ≡ allWords (reportsFrom 48 s written p)
+        = ap (take used) (turn .words) ∙ take-at (allWords (reportsFrom 48 s written p)) (drop used lent) used words-used in
         let after : drop (used + 5) out ≡ drop (used + 5) lent
         = sym (drop-drop 5 used out)
-        ∙ ap (drop 5) (ap (drop used) (turn .words) ∙ drop-at (allWords 48 (answersFrom s written p)) (drop used lent) used words-used)
+        ∙ ap (drop 5) (ap (drop used) (turn .words) ∙ drop-at (allWords (reportsFrom 48 s written p)) (drop used lent) used words-used)
         ∙ drop-drop 5 used lent in
-        let all : allWords 48 (answersFrom s (written + 1) p) ≡ allWords 48 (answersFrom s written p) ++ reportWords (report 48 (search s x))
-        = ap (allWords 48) one ∙ all-append (answersFrom s written p) (search s x ∷ [])
-        ∙ ap (λ (l : List ℕ). allWords 48 (answersFrom s written p) ++ l) (append-nil (reportWords (report 48 (search s x)))) in
+        let all : allWords (reportsFrom 48 s (written + 1) p) ≡ allWords (reportsFrom 48 s written p) ++ reportWords (report 48 (search s x))
+        = ap allWords (ap (map (report 48)) one ∙ map-append (report 48) (answersFrom s written p) (search s x ∷ []))
+        ∙ all-append (reportsFrom 48 s written p) (report 48 (search s x) ∷ [])
+        ∙ ap (λ (l : List ℕ). allWords (reportsFrom 48 s written p) ++ l) (append-nil (reportWords (report 48 (search s x)))) in
         record {
           five-each = omega (arith, turn .five-each);
           has-room = h;
@@ -74,7 +75,7 @@ module _ {s : Space} {p : ℕ} {lent out : List ℕ} {x written used : ℕ} (tur
           words =
               e
               ∙ rw (before, after, all)
-              (sym (append-assoc (allWords 48 (answersFrom s written p)) (reportWords (report 48 (search s x))) (drop (used + 5) lent)));
+              (sym (append-assoc (allWords (reportsFrom 48 s written p)) (reportWords (report 48 (search s x))) (drop (used + 5) lent)));
         }
 
   -- where as many have room

@@ -9,7 +9,8 @@ use Rattle.laws.specs.Number.{start}
 use Rattle.laws.specs.Width.{signExtend}
 use Rattle.mapping.specs.Pages.{reserved, outside}
 use Rattle.mapping.specs.Search.{Answer, end, stop, run}
-use Rattle.image.specs.Search.{report, reportWords}
+use Rattle.image.specs.Search.{Report, report, reportWords}
+use Rattle.image.specs.Search as reports
 use Rattle.image.specs.Found.{foundOf}
 use Rattle.image.specs.declared.found.Found.{Found}
 use Rattle.image.specs.List.{allWords}
@@ -44,19 +45,18 @@ five-stores out i a b c d e h =
     (sets-eq (a ∷ b ∷ c ∷ d ∷ e ∷ []) out i h ∙ append-assoc (take i out) (a ∷ b ∷ c ∷ d ∷ e ∷ []) (drop (i + 5) out))
 
 -- five words for each
-words-length : (a : Answer) → length (reportWords (report 48 a)) ≡ 5
-words-length end = refl
-words-length (stop q l reserved) = refl
-words-length (stop q l outside) = refl
-words-length (run q g c h) = refl
+words-length : (r : Report) → length (reportWords r) ≡ 5
+words-length reports.end = refl
+words-length (reports.stop p l reserved) = refl
+words-length (reports.stop p l outside) = refl
+words-length (reports.run p f c h) = refl
 
-pub all-length : (l : List Answer) → length (allWords 48 l) ≡ 5 * length l
+pub all-length : (l : List Report) → length (allWords l) ≡ 5 * length l
 unfolding allWords
 all-length [] = refl
-all-length (a ∷ l) = length-append (reportWords (report 48 a)) (allWords 48 l) ∙ omega (arith, words-length a, all-length l)
+all-length (r ∷ l) = length-append (reportWords r) (allWords l) ∙ omega (arith, words-length r, all-length l)
 
-pub all-append : (l m : List Answer) → allWords 48 (l ++ m) ≡ allWords 48 l ++ allWords 48 m
+pub all-append : (l m : List Report) → allWords (l ++ m) ≡ allWords l ++ allWords m
 unfolding allWords
 all-append [] m = refl
-all-append (a ∷ l) m =
-    ap (λ (r : List ℕ). reportWords (report 48 a) ++ r) (all-append l m) ∙ sym (append-assoc (reportWords (report 48 a)) (allWords 48 l) (allWords 48 m))
+all-append (r ∷ l) m = ap (λ (x : List ℕ). reportWords r ++ x) (all-append l m) ∙ sym (append-assoc (reportWords r) (allWords l) (allWords m))

@@ -1,16 +1,19 @@
 -- That the list of run searches from page zero agrees with translating all 4 KiB pages singly: document 01, "Words of demand 3". The claims about a list are those of
 -- crates/mapping/specs/Agreement.antt; here are the pages and the calls that they are about, for the width `w` with that many levels.
-use Prim.Native.Nat.{ℕ, _+_, _-_, _*_, _/_, _^_}
+use Prim.Native.Nat.{ℕ, _-_, _*_, _/_, _^_}
 use mathlib.Core.Path.{_≡_}
+use mathlib.Core.Bool.{true}
 use mathlib.Core.List.{List}
 use Rattle.answer.specs.Outcome.{Outcome, gives, none, refuses}
+use Rattle.laws.specs.Width.{low, canonical}
 use Rattle.laws.specs.Number.{start}
 use Rattle.mapping.specs.Pages.{PageState, Space}
 use Rattle.mapping.specs.Pages as page
 use Rattle.mapping.specs.Search.{Answer}
 use Rattle.mapping.specs.Search as search
-use Rattle.mapping.specs.Agreement.{Reply, refused, answered, Calls, Agreement}
-use Rattle.image.specs.Translate.{Translated, mapped, absent, broken, imageRefusal, pageNumber, translation}
+use Rattle.mapping.specs.Agreement.{Calls, Agreement}
+use Rattle.addr.specs.Item.{Item}
+use Rattle.image.specs.Translate.{Translated, mapped, absent, broken, imageRefusal, translation}
 use Rattle.image.specs.Search.{Report, end, stop, run, searching}
 
 -- "A 4 KiB page is mapped, absent, reserved or outside as translate answers for its first address; if mapped, its frame is the one at the physical address answered."
@@ -32,24 +35,33 @@ translatedPages w levels image base root =
       span = λ l. 2 ^ (9 * (l - 1));
     }
 
--- what a call answers, by the numbers of pages and frames
-abbrev pub answerIn : ℕ → Report → Answer
-answerIn w end = search.end
-answerIn w (stop p l r) = search.stop (pageNumber w (p .start)) l r
-answerIn w (run p f c h) = search.run (pageNumber w (p .start)) (f .start / 4096) c h
+-- the 4 KiB page with the number `n`: "t canonical, low48(t) that sum", n pages from 0
+pub record IsPage (w n : ℕ) (i : Item) : Type 0 where
+  pub canonical-start : canonical w (i .start) ≡ true
+  pub low-start : low w (i .start) ≡ n * 4096
+  pub size : i .bytes ≡ 4096
 
-abbrev pub replyIn : ℕ → Outcome Report → Reply
-replyIn w (gives r) = answered (answerIn w r)
-replyIn w none = refused 0
-replyIn w (refuses k) = refused k
+-- the 4 KiB frame with the number `n`
+pub record IsFrame (n : ℕ) (i : Item) : Type 0 where
+  pub from-start : i .start ≡ n * 4096
+  pub size : i .bytes ≡ 4096
+
+-- "Stop with q, level, reason"; "A run answers its first page, first frame, count (at least 1) and rights.": what is reported of an answer, exactly
+abbrev pub Reported : ℕ → Answer → Report → Type 0
+Reported w search.end r = r ≡ end
+Reported w (search.stop q l o) r = (p : Item) × IsPage w q p × (r ≡ stop p l o)
+Reported w (search.run q g c h) r = (p : Item) × (f : Item) × IsPage w q p × IsFrame g f × (r ≡ run p f c h)
+
+abbrev pub Reports : ℕ → Outcome Report → Answer → Type 0
+Reports w o a = (r : Report) × (o ≡ gives r) × Reported w a r
 
 -- the search from the page with a number
-abbrev pub callFrom : (w levels : ℕ) → List ℕ → (base root : ℕ) → ℕ → Reply
-callFrom w levels image base root n = replyIn w (searching w levels image base root (start w 4096 n))
+abbrev pub callFrom : (w levels : ℕ) → List ℕ → (base root : ℕ) → ℕ → Outcome Report
+callFrom w levels image base root n = searching w levels image base root (start w 4096 n)
 
 -- "All this is one claim about the whole list of answers, whatever its length": of every list of calls from page zero on an image, base and root that are accepted
 abbrev pub RunsAgree : (w levels : ℕ) → Type 0
 RunsAgree w levels =
-    (image : List ℕ) (base root : ℕ) → imageRefusal image base root ≡ 0 → (replies : List Reply) (passed : ℕ)
-    → Calls (translatedPages w levels image base root) (callFrom w levels image base root) 0 replies passed
-    → Agreement (translatedPages w levels image base root) (callFrom w levels image base root) replies passed
+    (image : List ℕ) (base root : ℕ) → imageRefusal image base root ≡ 0 → (replies : List (Outcome Report)) (passed : ℕ)
+    → Calls (translatedPages w levels image base root) (Reports w) (callFrom w levels image base root) 0 replies passed
+    → Agreement (translatedPages w levels image base root) (Reports w) (callFrom w levels image base root) replies passed

@@ -1,11 +1,11 @@
 -- An answer of the search as numbers, as the code has it.
-use Prim.Native.Nat.{ℕ, _+_, _-_, _*_, _/_, _^_, _≤_, _<_}
+use Prim.Native.Nat.{ℕ, _+_, _^_, _≤_, _<_}
 use mathlib.Core.Bool.{true}
 use mathlib.Core.List.{List}
 use mathlib.Core.Option.{some}
 use mathlib.Core.Path.{_≡_}
 use Rattle.mapping.specs.Pages.{reserved, outside}
-use Rattle.mapping.specs.Search.{Answer, end, stop, run, answerAt, search}
+use Rattle.mapping.specs.Search.{Answer, end, stop, run, answerAt, search, next}
 use Rattle.mapping.specs.Walk.{walk, allRights}
 use Rattle.image.specs.Entry.{entry}
 use Rattle.image.specs.Memory.{tableAt}
@@ -41,15 +41,10 @@ FoundAt image base root x n f =
 abbrev pub FoundFrom : List ℕ → (base root p : ℕ) → Found → Type 0
 FoundFrom image base root p f = (t : List ℕ) → tableAt image base root ≡ some t → f ≡ foundOf (search (imagePages 4 image base t) p)
 
--- the next page that an answer leaves, with four levels
-abbrev pub pageAfter : Answer → ℕ
-pageAfter end = 2 ^ 36
-pageAfter (stop q l r) = (q / 2 ^ (9 * (l - 1)) + 1) * 2 ^ (9 * (l - 1))
-pageAfter (run q g c h) = q + c
-
+-- the next page that an answer leaves, with four levels: it is the same in every image
 abbrev pub Leaves : Found → ℕ → Type 0
-Leaves f n = (a : Answer) → f ≡ foundOf a → n ≡ pageAfter a
+Leaves f n = (image : List ℕ) (base : ℕ) (t : List ℕ) (a : Answer) → f ≡ foundOf a → n ≡ next (imagePages 4 image base t) a
 
 -- what is reported of it
-abbrev pub Reports : Found → SearchAnswer → Type 0
-Reports f r = (a : Answer) → f ≡ foundOf a → reportOf r ≡ gives (report 48 a)
+abbrev pub ReportsFound : Found → SearchAnswer → Type 0
+ReportsFound f r = (a : Answer) → f ≡ foundOf a → reportOf r ≡ gives (report 48 a)

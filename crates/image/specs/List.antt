@@ -1,29 +1,32 @@
 -- The answers of a list of searches, written into lent words.
 use Prim.Native.Nat.{ℕ, _+_, _/_}
 use mathlib.Core.Bool.{cond}
-use mathlib.Core.List.{List, [], _∷_, _++_}
+use mathlib.Core.List.{List, [], _∷_, _++_, map}
 use mathlib.Core.Option.{Option, none, some}
 use mathlib.Core.Path.{_≡_}
 use lib.Dec.{ltb}
 use lib.ListN.{length, take, drop}
-use Rattle.answer.specs.Outcome.{Outcome, gives, refuses}
+use Rattle.answer.specs.Outcome.{Outcome, gives, refuses, unlessRefused}
 use Rattle.answer.specs.Outcome as outcome
 use Rattle.mapping.specs.Pages.{Space}
 use Rattle.mapping.specs.Search.{Answer, answersFrom, leftAfter}
-use Rattle.addr.specs.Address.{virt}
-use Rattle.addr.specs.Item.{Item, item, givenItem}
+use Rattle.addr.specs.Item.{Item, item}
 use Rattle.page.specs.Page as page
-use Rattle.image.specs.Translate.{givenImage, pageNumber}
-use Rattle.image.specs.Search.{pageItem, report, reportWords, imagePages}
+use Rattle.image.specs.Translate.{rootTable, pageNumber}
+use Rattle.image.specs.Search.{Report, pageItem, report, reportWords, searchRefusal, imagePages}
 use Rattle.image.specs.Found.{foundOf}
 use Rattle.image.specs.declared.found.Found.{Found}
 use Rattle.image.specs.declared.list_searches.ListAnswer.{ListAnswer}
 use Rattle.image.specs.declared.list_searches.ListAnswer.the-variants as answer
 
--- the words of answers, one after the other
-unfoldable pub allWords : ℕ → List Answer → List ℕ
-allWords w [] = []
-allWords w (a ∷ answers) = reportWords (report w a) ++ allWords w answers
+-- the words of what is reported, one after the other
+unfoldable pub allWords : List Report → List ℕ
+allWords [] = []
+allWords (r ∷ reports) = reportWords r ++ allWords reports
+
+-- what is reported of at most `k` searches from page `p` on
+abbrev pub reportsFrom : ℕ → Space → (k p : ℕ) → List Report
+reportsFrom w s k p = map (report w) (answersFrom s k p)
 
 -- how many answers were written, and the next page that the last of them left; none once the search is over
 pub record Listed : Type 0 where
@@ -51,14 +54,14 @@ abbrev pub settled : ℕ → Outcome (Space) → (p : ℕ) → List ℕ → List
 settled w (gives s) p out =
     record {
       answer = gives (listedFrom w s p out);
-      words = allWords w (answersFrom s (room out) p) ++ drop (length (allWords w (answersFrom s (room out) p))) out;
+      words = allWords (reportsFrom w s (room out) p) ++ drop (length (allWords (reportsFrom w s (room out) p))) out;
     }
 settled w outcome.none p out = record { answer = outcome.none; words = out }
 settled w (refuses k) p out = record { answer = refuses k; words = out }
 
 unfoldable pub listing : (w levels : ℕ) → List ℕ → (base root a : ℕ) → List ℕ → Listing
 listing w levels image base root a out =
-    settled w (givenImage 52 image base root (λ t. givenItem (virt w) a 0x1000 (gives (imagePages levels image base t)))) (pageNumber w a) out
+    settled w (unlessRefused (searchRefusal w image base root a) (gives (imagePages levels image base (rootTable image base root)))) (pageNumber w a) out
 
 -- what each case of an answer stands for
 abbrev pub listedOf : ListAnswer → Outcome Listed

@@ -2,20 +2,20 @@
 use Prim.Native.Nat.{ℕ, _*_}
 use mathlib.Core.Bool.{true}
 use mathlib.Core.List.{List, [], _∷_}
-use Rattle.answer.specs.Outcome.{Outcome, gives, refuses}
+use Rattle.answer.specs.Outcome.{Outcome, gives, refuses, unlessRefused}
 use Rattle.laws.specs.Number.{start}
 use Rattle.mapping.specs.Pages.{Rights, Reason, reserved, outside, Space}
 use Rattle.mapping.specs.Search.{Answer, search}
 use Rattle.mapping.specs.Search as found
 use Rattle.mapping.specs.Walk.{space}
 use Rattle.addr.specs.Address.{virt}
-use Rattle.addr.specs.Item.{Item, item, givenItem, itemRefusal, firstRefusal}
+use Rattle.addr.specs.Item.{Item, item, itemRefusal, firstRefusal}
 use Rattle.frame.specs.Frame as frame
 use Rattle.page.specs.Page as page
 use Rattle.image.specs.Entry.{entry}
 use Rattle.image.specs.Memory.{tableAt}
 use Rattle.image.specs.Packed.{rightsBits}
-use Rattle.image.specs.Translate.{givenImage, imageRefusal, pageNumber, rightsHeld}
+use Rattle.image.specs.Translate.{imageRefusal, rootTable, pageNumber, rightsHeld}
 use Rattle.image.specs.declared.run_search.StopReason.{StopReason}
 use Rattle.image.specs.declared.run_search.StopReason.the-variants as reason
 use Rattle.image.specs.declared.run_search.SearchAnswer.{SearchAnswer}
@@ -50,15 +50,13 @@ reportWords (stop p l outside) = 3 ∷ p .start ∷ l ∷ 0 ∷ 0 ∷ []
 abbrev pub imagePages : (levels : ℕ) → List ℕ → (base : ℕ) → List ℕ → Space
 imagePages levels image base t = space (entry 52 true) (tableAt image base) levels t
 
--- "Both calls: base 2, 3; root 2, 3 ..; then 14 ..; only then .. the 4 KiB page (1, 3)."
+-- "Both calls: base 2, 3; root 2, 3 ..; then 14 ..; only then .. the 4 KiB page (1, 3).": the number that refuses a search, 0 for none
+unfoldable pub searchRefusal : ℕ → List ℕ → (base root a : ℕ) → ℕ
+searchRefusal w image base root a = firstRefusal (imageRefusal image base root) (itemRefusal (virt w) a 0x1000)
+
 unfoldable pub searching : (w levels : ℕ) → List ℕ → (base root a : ℕ) → Outcome Report
 searching w levels image base root a =
-    givenImage 52 image base root
-    (λ t. givenItem (virt w) a 0x1000 (gives (report w (search (imagePages levels image base t) (pageNumber w a)))))
-
--- the number that refuses a search, 0 for none
-unfoldable pub searchRefusal : List ℕ → (base root a : ℕ) → ℕ
-searchRefusal image base root a = firstRefusal (imageRefusal image base root) (itemRefusal (virt 48) a 0x1000)
+    unlessRefused (searchRefusal w image base root a) (gives (report w (search (imagePages levels image base (rootTable image base root)) (pageNumber w a))))
 
 -- what each case of an answer stands for
 abbrev pub reasonOf : StopReason → Reason

@@ -1,5 +1,6 @@
 -- Pages and the spans of entries, by page numbers: `n` + 1 is the level of the entry.
-use Prim.Native.Nat.{ℕ, _+_, _*_, _/_, _%_}
+use Prim.Native.Nat.{ℕ, _%_}
+use Rattle.mapping.specs.Pages.{spanEnd}
 use Rattle.mapping.specs.Walk.{spanPages}
 
 -- how far into its span a page is
@@ -8,4 +9,4 @@ within n x = x % spanPages n
 
 -- the page after the last of the span that page `x` is in
 unfoldable pub after : ℕ → ℕ → ℕ
-after n x = (x / spanPages n + 1) * spanPages n
+after n x = spanEnd (spanPages n) x

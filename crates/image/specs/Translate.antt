@@ -4,7 +4,7 @@ use mathlib.Core.Bool.{Bool, true}
 use mathlib.Core.List.{List, [], _∷_}
 use mathlib.Core.Option.{Option, none, some}
 use mathlib.Core.Path.{_≡_}
-use Rattle.answer.specs.Outcome.{Outcome, gives, refuses}
+use Rattle.answer.specs.Outcome.{Outcome, gives, refuses, unlessRefused}
 use Rattle.answer.specs.Refusal.{rootOutside}
 use Rattle.laws.specs.Number.{number}
 use Rattle.laws.specs.Index.{span, offset}
@@ -15,9 +15,9 @@ use Rattle.mapping.specs.Walk as walked
 use Rattle.table.specs.Level.{bytesOf}
 use Rattle.table.specs.declared.size.PageSize.{PageSize}
 use Rattle.addr.specs.Address.{virt, phys, given}
-use Rattle.addr.specs.Item.{givenItem, itemRefusal, firstRefusal}
+use Rattle.addr.specs.Item.{itemRefusal, firstRefusal}
 use Rattle.image.specs.Entry.{entry}
-use Rattle.image.specs.Memory.{tableAt}
+use Rattle.image.specs.Memory.{tableAt, tableWords}
 use Rattle.image.specs.Packed.{Fits, packed, rightsBits}
 use Rattle.image.specs.declared.rights.Rights as code
 use Rattle.image.specs.declared.translation.TranslateAnswer.{TranslateAnswer}
@@ -42,30 +42,29 @@ translatedWords (absent l) = 1 ∷ l ∷ 0 ∷ 0 ∷ []
 translatedWords (broken l reserved) = 2 ∷ l ∷ 0 ∷ 0 ∷ []
 translatedWords (broken l outside) = 3 ∷ l ∷ 0 ∷ 0 ∷ []
 
--- "then 14 if the root's 512 words aren't wholly inside"; what follows has them
-abbrev pub rooted : {A : Type 0} → Option (List ℕ) → (List ℕ → Outcome A) → Outcome A
-rooted none f = refuses rootOutside
-rooted (some t) f = f t
+-- "then 14 if the root's 512 words aren't wholly inside"
+abbrev pub rootRefusal : Option (List ℕ) → ℕ
+rootRefusal none = rootOutside
+rootRefusal (some t) = 0
 
--- "Both calls: base 2, 3; root 2, 3 (both are multiples of 4,096); then 14 ..; only then the address (1) or the 4 KiB page": what follows has the root's words
-abbrev pub givenImage : {A : Type 0} → ℕ → List ℕ → (base root : ℕ) → (List ℕ → Outcome A) → Outcome A
-givenImage w image base root f = givenItem (phys w) base 0x1000 (givenItem (phys w) root 0x1000 (rooted (tableAt image base root) f))
-
--- the number that refuses an image, 0 for none
+-- "Both calls: base 2, 3; root 2, 3 (both are multiples of 4,096); then 14": the number that refuses an image, 0 for none
 unfoldable pub imageRefusal : List ℕ → (base root : ℕ) → ℕ
 imageRefusal image base root =
-    firstRefusal (itemRefusal (phys 52) base 0x1000)
-    (firstRefusal (itemRefusal (phys 52) root 0x1000) (elim (tableAt image base root) [ none ↦ rootOutside | some t ↦ 0 ]))
+    firstRefusal (itemRefusal (phys 52) base 0x1000) (firstRefusal (itemRefusal (phys 52) root 0x1000) (rootRefusal (tableAt image base root)))
+
+-- the words of the root table, in an image that is not refused
+abbrev pub rootTable : List ℕ → (base root : ℕ) → List ℕ
+rootTable image base root = tableWords (tableAt image base root)
 
 -- the 4 KiB page of an address, by its number
 abbrev pub pageNumber : ℕ → ℕ → ℕ
 pageNumber w a = number w 4096 a
 
--- at the width `w` with that many levels, the physical width 52 and no-execute on
+-- "only then the address (1)"; at the width `w` with that many levels, the physical width 52 and no-execute on
 unfoldable pub translation : (w levels : ℕ) → List ℕ → (base root a : ℕ) → Outcome Translated
 translation w levels image base root a =
-    givenImage 52 image base root
-    (λ t. given (virt w) a (gives (translated a (walk (entry 52 true) (tableAt image base) levels t allRights (pageNumber w a)))))
+    unlessRefused (imageRefusal image base root)
+    (given (virt w) a (gives (translated a (walk (entry 52 true) (tableAt image base) levels (rootTable image base root) allRights (pageNumber w a)))))
 
 -- what each case of an answer stands for
 abbrev pub rightsHeld : code.Rights → Rights

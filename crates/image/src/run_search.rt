@@ -21,7 +21,7 @@ ghost use Prim.Native.Nat.{_<_, _^_};
 ghost use Rattle.addr.specs.Item.{item};
 ghost use Rattle.frame.specs.Frame.{start as Frame·start, bytes as Frame·bytes};
 ghost use Rattle.page.specs.Page.{start as Page·start, bytes as Page·bytes};
-ghost use Rattle.image.specs.Found.{OfAnswer, Reports};
+ghost use Rattle.image.specs.Found.{OfAnswer, ReportsFound};
 ghost use Rattle.image.specs.Search.{pageItem, frameItem, searchRefusal, searching, reportOf};
 
 pub enum StopReason {
@@ -64,7 +64,7 @@ fn numbered_frame(number: u64) -> PhysFrame
 // What is reported of an answer.
 fn answer_of(found: Found) -> SearchAnswer
     requires { ⌜ OfAnswer found ⌝ }
-    ensures { λ r. ⌜ Reports found r ⌝ }
+    ensures { λ r. ⌜ ReportsFound found r ⌝ }
 {
     let kind = found.kind;
     if kind == END {
@@ -87,7 +87,7 @@ fn answer_of(found: Found) -> SearchAnswer
 
 // The number that refuses a search: those of the image, then 1 and 3 of the page; 0 for none.
 pub(crate) fn search_refusal(image: &[u64], base: u64, root: u64, page: u64) -> u8
-    ensures { λ r. ⌜ r ≡ searchRefusal (now (image .entry)) base root page ⌝ }
+    ensures { λ r. ⌜ r ≡ searchRefusal 48 (now (image .entry)) base root page ⌝ }
 {
     let refused = image_refusal(image, base, root);
     if refused != 0 {

@@ -87,17 +87,13 @@ module _ (s : Space) (w : Spanned s) where
   complete-at zero ok (more {p} o r) = complete s w p o ok (found p o)
   complete-at (suc n) ok (more {p} o r) = complete-at n (next-boundary s w (found p o)) r
 
-  -- a list that goes on to the end of the pages, and lists that follow each other
+  -- a list that goes on to the end of the pages
   finish : (n p : ℕ) → p ≤ s .size → s .size ≤ p + n → (later : List Answer) × Searches s p later (s .size)
   finish zero p a b = ([], subst (λ (e : ℕ). Searches s p [] e) (omega arith) none)
   finish (suc n) p a b =
       by-cases (decLt p (s .size))
       (λ o. let t = finish n (next s (search s p)) (next-inside s w (found p o)) (omega (arith, forward s w o (found p o))) in (search s p ∷ t .0, more o (t .1)))
       (λ m. ([], subst (λ (e : ℕ). Searches s p [] e) (omega arith) none))
-
-  join : {p e o : ℕ} {answers later : List Answer} → Searches s p answers e → Searches s e later o → Searches s p (answers ++ later) o
-  join none t = t
-  join (more o r) t = more o (join r t)
 
 module _ (s : Space) (w : Spanned s) (answers : List Answer) (passed : ℕ) (all : Searches s 0 answers passed) where
   in-run : (x i : ℕ) → InRun (nth answers i) x → (g : ℕ) × (h : Rights) × (s .page x ≡ mapped g h)
@@ -148,5 +144,6 @@ module _ (s : Space) (w : Spanned s) (answers : List Answer) (passed : ℕ) (all
         inside = inside;
       }
 
-  pub extends : (later : List Answer) × Searches s 0 (answers ++ later) (s .size)
-  extends = let (later, t) = finish s w (s .size) passed inside (omega arith) in (later, join s w all t)
+  -- searches from the page that it left go on to the end
+  pub extends : (later : List Answer) × Searches s passed later (s .size)
+  extends = finish s w (s .size) passed inside (omega arith)

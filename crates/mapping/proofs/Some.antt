@@ -1,4 +1,4 @@
--- The first answers of a list of searches, one by one: they are a list of searches, and leave the page that it says.
+-- The first answers of a list of searches, one by one: they are a list of searches, and leave the page that it says. Lists that follow each other.
 use Prim.Native.Nat.{ℕ, zero, suc, _+_, _≤_, _<_}
 use mathlib.Core.Path.{_≡_, refl, sym, ap, _∙_}
 use mathlib.Core.List.{List, [], _∷_, _++_}
@@ -36,6 +36,11 @@ module _ (s : Space) where
   some-searches (suc k) p =
       by-cases (decLt p (s .size)) (λ h. rw (lt-ltb p (s .size) h) (more h (some-searches k (next s (search s p)))))
       (λ n. rw (le-ltb p (s .size) (omega arith)) none)
+
+  -- lists that follow each other are one
+  pub join : {p e o : ℕ} {answers later : List Answer} → Searches s p answers e → Searches s e later o → Searches s p (answers ++ later) o
+  join none t = t
+  join (more o r) t = more o (join r t)
 
   -- k more after the first n go on from the page that these left
   pub answers-add : (n k p : ℕ) → answersFrom s (n + k) p ≡ answersFrom s n p ++ answersFrom s k (leftAfter s n p)

@@ -2,7 +2,7 @@
 use Prim.Native.Nat.{ℕ, _+_, _*_, _-_, _/_, _≤_, _<_}
 use mathlib.Core.Path.{_≡_}
 use mathlib.Core.Logic.{_⊎_}
-use mathlib.Core.List.{List, [], _∷_, _++_, map}
+use mathlib.Core.List.{List, [], _∷_, _++_}
 use lib.ListN.{length, getD}
 use Rattle.mapping.specs.Pages.{Rights, Reason, PageState, absent, broken, mapped, Space, Spanned}
 use Rattle.mapping.specs.Search.{Answer, end, stop, run, search, next, Searches}
@@ -68,25 +68,28 @@ pub record Agrees (s : Space) (answers : List Answer) (passed : ℕ) : Type 0 wh
   -- passed are pages of the space
   pub inside : passed ≤ s .size
 
--- what a call of the search answers: refused with a number, or answered
-pub data Reply : Type 0 where
-  refused : (number : ℕ) → Reply
-  answered : Answer → Reply
+-- A call of the search from a page answers a reply; `reports r a` says that the reply `r` is the report of the answer `a`.
 
--- the replies of a list of calls, each from the next page that the one before it left; none follows a refusal
-pub data Calls (s : Space) (call : ℕ → Reply) : ℕ → List Reply → ℕ → Type 0 where
-  none : {p : ℕ} → Calls s call p [] p
-  refusal : {p n : ℕ} → p < s .size → call p ≡ refused n → Calls s call p (refused n ∷ []) p
-  more : {p e : ℕ} {a : Answer} {replies : List Reply} → p < s .size → call p ≡ answered a → Calls s call (next s a) replies e → Calls s call p (answered a ∷ replies) e
+-- the replies of a list of calls, each from the next page that the one before it left; none follows a reply that reports no answer, as a refusal
+pub data Calls {R : Type 0} (s : Space) (reports : R → Answer → Type 0) (call : ℕ → R) : ℕ → List R → ℕ → Type 0 where
+  none : {p : ℕ} → Calls s reports call p [] p
+  last : {p : ℕ} → p < s .size → ((a : Answer) → reports (call p) a → ⊥) → Calls s reports call p (call p ∷ []) p
+  more : {p e : ℕ} {a : Answer} {replies : List R} → p < s .size → reports (call p) a → Calls s reports call (next s a) replies e
+      → Calls s reports call p (call p ∷ replies) e
+
+-- each reply is the report of the answer at its place
+pub data Each {R : Type 0} (reports : R → Answer → Type 0) : List R → List Answer → Type 0 where
+  none : Each reports [] []
+  more : {r : R} {a : Answer} {replies : List R} {answers : List Answer} → reports r a → Each reports replies answers → Each reports (r ∷ replies) (a ∷ answers)
 
 -- the claims about a list of calls from page zero
-pub record Agreement (s : Space) (call : ℕ → Reply) (replies : List Reply) (passed : ℕ) : Type 0 where
+pub record Agreement {R : Type 0} (s : Space) (reports : R → Answer → Type 0) (call : ℕ → R) (replies : List R) (passed : ℕ) : Type 0 where
   pub answers : List Answer
-  -- no search of the list is refused
-  pub unrefused : replies ≡ map answered answers
+  -- no search of the list is refused: each replies with its answer
+  pub reported : Each reports replies answers
   pub agrees : Agrees s answers passed
   -- every list extends to one that is over, and then all pages are passed
-  pub extends : (later : List Reply) × Calls s call 0 (replies ++ later) (s .size)
+  pub extends : (later : List R) × Calls s reports call 0 (replies ++ later) (s .size)
 
 -- The claims pin a list down: two lists that meet them for the same passed pages have the same answer at every place, and where both are of runs and stops alone, so
 -- without an `end` as their last, they are the same list.

@@ -34,6 +34,10 @@ pub record Space : Type 0 where
   pub high : ℕ
   pub span : ℕ → ℕ
 
+-- the page after the last of the span of `k` pages that page `x` is in
+abbrev pub spanEnd : (k x : ℕ) → ℕ
+spanEnd k x = (x / k + 1) * k
+
 -- what is asked of the pages: the pages of a broken entry's span are broken alike, "all whose indices down to its level are those of q", and spans end where the
 -- pages end
 pub record Spanned (s : Space) : Type 0 where

@@ -1,10 +1,10 @@
 -- The run search over the pages of a space, and lists of searches. The sentences are those of document 01, "Translation and mapped runs".
-use Prim.Native.Nat.{ℕ, zero, suc, _+_, _*_, _-_, _/_, _<_}
+use Prim.Native.Nat.{ℕ, zero, suc, _+_, _-_, _<_}
 use mathlib.Core.Path.{_≡_}
 use mathlib.Core.Bool.{cond}
 use mathlib.Core.List.{List, [], _∷_}
 use lib.Dec.{ltb}
-use Rattle.mapping.specs.Pages.{Rights, Reason, PageState, absent, broken, mapped, sameState, Space}
+use Rattle.mapping.specs.Pages.{Rights, Reason, PageState, absent, broken, mapped, sameState, Space, spanEnd}
 
 -- the first of the `k` pages from `p` on that is not as `w` says; `p + k` where each of them is
 unfoldable pub first : (f w : ℕ → PageState) → (k p : ℕ) → ℕ
@@ -46,7 +46,7 @@ search s p = answerFrom s (first (s .page) nothing (s .size - p) p)
 -- it is `size`, and no page is left
 unfoldable pub next : Space → Answer → ℕ
 next s end = s .size
-next s (stop q l r) = (q / s .span l + 1) * s .span l
+next s (stop q l r) = spanEnd (s .span l) q
 next s (run q g c h) = q + c
 
 -- "Each search of a list gets the next page that the one before it left; none follows once the search is over": the answers of a list of searches that begins at

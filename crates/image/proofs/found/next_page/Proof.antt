@@ -3,19 +3,18 @@ use Prim.Native.Nat.{ℕ, _^_}
 use mathlib.Core.Path.{_≡_, sym, ap, _∙_}
 use native.Mathlib.Omega.{arith}
 use borrow.Author.Needs.{needs}
-use Rattle.image.specs.Span.{after}
 use Rattle.image.proofs.Founds.{after-end, after-run, after-stop, run-bounds, stop-bounds}
 use Rattle.image.proofs.found.next_page.Statement.{statement}
 use Rattle.image.proofs.found.next_page.Tie as tie
 
 returns : tie.Need-returns
-returns c a e = after-end (c .before .args .found) a e (c .if1 .taken)
+returns c image base t a e = after-end (c .before .args .found) image base t a e (c .if1 .taken)
 
 add-result : tie.Need-add-result
 add-result c = let k = c .before in let s = k .before .before in omega (arith, run-bounds (s .args .found) (s .pre) (k .if2 .taken))
 
 returns-2 : tie.Need-returns-2
-returns-2 c a e = let k = c .before in after-run (k .before .before .args .found) a e (k .if2 .taken)
+returns-2 c image base t a e = let k = c .before in after-run (k .before .before .args .found) image base t a e (k .if2 .taken)
 
 sub-below : tie.Need-sub-below
 sub-below c = let k = c .before in let s = k .before .before in omega (arith, stop-bounds (s .args .found) (s .pre) (k .before .if1 .left) (k .if2 .left))
@@ -31,11 +30,10 @@ span-end-requires c κs =
     (c .span-pages .ensures, omega arith, b .0)
 
 returns-3 : tie.Need-returns-3
-unfolding after
-returns-3 c a e =
+returns-3 c image base t a e =
     let k = c .before .before .before in
     let s = k .before .before in
-    c .span-end .ensures ∙ after-stop (s .args .found) a e (k .before .if1 .left) (k .if2 .left)
+    c .span-end .ensures ∙ after-stop (s .args .found) image base t a e (k .before .if1 .left) (k .if2 .left)
 
 pub next-page-spec : {M : Type 1} → statement M
 next-page-spec =

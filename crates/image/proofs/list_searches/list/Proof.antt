@@ -7,20 +7,21 @@ use mathlib.Core.Option.{some}
 use native.Mathlib.Omega.{arith}
 use borrow.Author.Needs.{needs}
 use denote.Ref.{now}
-use Rattle.answer.specs.Outcome.{gives}
+use Rattle.answer.specs.Outcome.{Outcome, gives}
 use Rattle.mapping.specs.Pages.{Space, Spanned}
 use Rattle.mapping.specs.Search.{Answer}
 use Rattle.mapping.specs.Search as runs
 use Rattle.mapping.proofs.Walk.{spanned}
 use Rattle.addr.specs.Item.{Item}
 use Rattle.image.specs.Entry.{entry}
-use Rattle.image.specs.Memory.{tableAt}
+use Rattle.image.specs.Memory.{tableAt, tableWords}
+use Rattle.image.specs.Translate.{pageNumber, rootTable}
 use Rattle.image.specs.Search.{imagePages}
 use Rattle.image.specs.Found.{foundOf, OfAnswer}
 use Rattle.image.specs.List.{settled, listing}
-use Rattle.image.proofs.Refused.{search-given}
-use Rattle.image.proofs.ListKept.{kept, page-after}
-use Rattle.image.proofs.ListRefused.{list-refused, list-given}
+use Rattle.addr.proofs.Item.{refused-unless}
+use Rattle.image.proofs.Refused.{root-inside, search-passed}
+use Rattle.image.proofs.ListKept.{kept}
 use Rattle.image.proofs.ListTurns.{Turn, first-turn, later, next-turn, over, full}
 use Rattle.image.proofs.ListTurns as turns
 use Rattle.image.proofs.list_searches.list.Statement.{statement}
@@ -37,10 +38,11 @@ search-refusal-requires : tie.Need-search-refusal-requires Inv-loop μ-loop
 search-refusal-requires c κs = search needs
 
 returns : tie.Need-returns Inv-loop μ-loop
+unfolding listing
 returns c =
     let a = c .before .before .before .before .args in
     let e = c .before .search-refusal .ensures in
-    rw e (list-refused (now (a .image)) (a .base .0) (a .root .0) (a .page .0) (now (a .out)) (rw e at (c .if1 .taken)))
+    rw e (ap (λ (o : Outcome Space). settled 48 o (pageNumber 48 (a .page .0)) (now (a .out))) (refused-unless _ _ (rw e at (c .if1 .taken))))
 
 page-number-requires : tie.Need-page-number-requires Inv-loop μ-loop
 page-number-requires c κs = search needs
@@ -49,7 +51,8 @@ loop-holds : tie.Need-loop-holds Inv-loop μ-loop
 loop-holds c =
     let a = c .before .before .before .before .before .args in
     let z = sym (c .before .before .search-refusal .ensures) ∙ c .before .if1 .left in
-    let (t, i, g) = search-given (now (a .image)) (a .base .0) (a .root .0) (a .page .0) (λ v. gives (imagePages 4 (now (a .image)) (a .base .0) v)) z in
+    let i = root-inside (now (a .image)) (a .base .0) (a .root .0) (search-passed (now (a .image)) (a .base .0) (a .root .0) 48 (a .page .0) z .0) in
+    let t = rootTable (now (a .image)) (a .base .0) (a .root .0) in
     (t, i, first-turn (imagePages 4 (now (a .image)) (a .base .0) t) (c .page-number .result) (now (a .out)) (omega arith))
 
 -- the pages of the image and the answer of the search, at a turn of the loop
@@ -67,10 +70,11 @@ whole c =
 given : (c : tie.At-loop Inv-loop μ-loop)
     → (let a = c .before .before .before .before .before .before .args in
     settled 48 (gives (pages c)) (c .before .page-number .result) (now (a .out)) ≡ listing 48 4 (now (a .image)) (a .base .0) (a .root .0) (a .page .0) (now (a .out)))
+unfolding listing
 given c =
     let a = c .before .before .before .before .before .before .args in
-    list-given (now (a .image)) (a .base .0) (a .root .0) (a .page .0) (now (a .out)) (c .loop .inv .0) (c .before .page-number .result)
-    (sym (c .before .before .before .search-refusal .ensures) ∙ c .before .before .if1 .left) (c .loop .inv .1) (c .before .page-number .ensures)
+    let e : tableWords (tableAt (now (a .image)) (a .base .0) (a .root .0)) ≡ c .loop .inv .0 = ap tableWords (c .loop .inv .1) in
+    rw (sym (c .before .before .before .search-refusal .ensures) ∙ c .before .before .if1 .left, e, c .before .page-number .ensures)
 
 sub-if2 : tie.Need-sub-if2 Inv-loop μ-loop
 sub-if2 c = omega (arith, turns.same-length (c .before .loop .inv .2))
@@ -119,7 +123,7 @@ leaves c =
     let k = c .before .before .before .before .before in
     let b = k .before .before .before in
     let a = b .before .before .before .before .before .before .args in
-    c .next-page .ensures (answer b) (found k) ∙ page-after (now (a .image)) (a .base .0) (b .loop .inv .0) (answer b)
+    c .next-page .ensures (now (a .image)) (a .base .0) (b .loop .inv .0) (answer b) (found k)
 
 loop-less : tie.Need-loop-less Inv-loop μ-loop
 loop-less c =

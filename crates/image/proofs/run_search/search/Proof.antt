@@ -6,19 +6,16 @@ use mathlib.Core.Option.{some}
 use native.Mathlib.Omega.{arith}
 use borrow.Author.Needs.{needs}
 use denote.Ref.{now}
-use Rattle.answer.specs.Outcome.{Outcome, gives}
+use Rattle.answer.specs.Outcome.{gives}
 use Rattle.mapping.specs.Search as runs
 use Rattle.image.specs.Memory.{tableAt}
-use Rattle.image.specs.Search.{Report, report, imagePages, searching}
-use Rattle.image.specs.Translate.{pageNumber}
+use Rattle.image.specs.Search.{report, imagePages, searchRefusal, searching}
+use Rattle.image.specs.Translate.{rootTable}
 use Rattle.image.proofs.ListKept.{kept}
-use Rattle.image.proofs.Refused.{search-refused, search-given}
+use Rattle.addr.proofs.Item.{refused-unless}
+use Rattle.image.proofs.Refused.{root-inside, search-passed}
 use Rattle.image.proofs.run_search.search.Statement.{statement}
 use Rattle.image.proofs.run_search.search.Tie as tie
-
--- what follows on what is not refused, with the root's words
-abbrev follows : List ℕ → (base a : ℕ) → List ℕ → Outcome Report
-follows image base a t = gives (report 48 (runs.search (imagePages 4 image base t) (pageNumber 48 a)))
 
 search-refusal-requires : tie.Need-search-refusal-requires
 search-refusal-requires c κs = search needs
@@ -26,19 +23,18 @@ search-refusal-requires c κs = search needs
 returns : tie.Need-returns
 unfolding searching
 returns c =
-    let a = c .before .before .before .args in
     let e = c .before .search-refusal .ensures in
-    rw e (search-refused (now (a .image)) (a .base .0) (a .root .0) (a .page .0) (follows (now (a .image)) (a .base .0) (a .page .0)) (λ z. c .if1 .taken (e ∙ z)))
+    rw e (refused-unless _ _ (λ z. c .if1 .taken (e ∙ z)))
 
 -- what is not refused has the root's words
-given : (c : tie.Else1)
-    → (let a = c .before .before .before .args in
-    (t : List ℕ) × (tableAt (now (a .image)) (a .base .0) (a .root .0) ≡ some t)
-    × (searching 48 4 (now (a .image)) (a .base .0) (a .root .0) (a .page .0) ≡ follows (now (a .image)) (a .base .0) (a .page .0) t))
-unfolding searching
-given c =
+passed : (c : tie.Else1) → (let a = c .before .before .before .args in searchRefusal 48 (now (a .image)) (a .base .0) (a .root .0) (a .page .0) ≡ 0)
+passed c = sym (c .before .search-refusal .ensures) ∙ c .if1 .left
+
+inside : (c : tie.Else1)
+    → (let a = c .before .before .before .args in tableAt (now (a .image)) (a .base .0) (a .root .0) ≡ some (rootTable (now (a .image)) (a .base .0) (a .root .0)))
+inside c =
     let a = c .before .before .before .args in
-    search-given (now (a .image)) (a .base .0) (a .root .0) (a .page .0) (follows (now (a .image)) (a .base .0) (a .page .0)) (sym (c .before .search-refusal .ensures) ∙ c .if1 .left)
+    root-inside (now (a .image)) (a .base .0) (a .root .0) (search-passed (now (a .image)) (a .base .0) (a .root .0) 48 (a .page .0) (passed c) .0)
 
 page-number-requires : tie.Need-page-number-requires
 page-number-requires c κs = search needs
@@ -50,18 +46,19 @@ answer-of-requires : tie.Need-answer-of-requires
 answer-of-requires c κs =
     let k = c .before .before in
     let a = k .before .before .before .args in
-    let (t, h, g) = given k in
+    let t = rootTable (now (a .image)) (a .base .0) (a .root .0) in
     let p = c .before .page-number .result in
-    (runs.search (imagePages 4 (now (a .image)) (a .base .0) t) p, kept (now (a .image)) (a .base .0) t p (omega (arith, c .before .page-number .ensures)), c .find .ensures t h)
+    (runs.search (imagePages 4 (now (a .image)) (a .base .0) t) p, kept (now (a .image)) (a .base .0) t p (omega (arith, c .before .page-number .ensures)), c .find .ensures t (inside k))
 
 returns-2 : tie.Need-returns-2
+unfolding searching
 returns-2 c =
     let k = c .before .before .before in
     let a = k .before .before .before .args in
-    let (t, h, g) = given k in
-    c .answer-of .ensures _ (c .before .find .ensures t h)
+    let t = rootTable (now (a .image)) (a .base .0) (a .root .0) in
+    c .answer-of .ensures _ (c .before .find .ensures t (inside k))
     ∙ ap (λ (p : ℕ). gives (report 48 (runs.search (imagePages 4 (now (a .image)) (a .base .0) t) p))) (c .before .before .page-number .ensures)
-    ∙ sym g
+    ∙ rw (passed k)
 
 pub search-spec : {M : Type 1} → statement M
 search-spec =
