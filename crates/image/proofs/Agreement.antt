@@ -72,14 +72,14 @@ module _ (w levels : ℕ) (v : IsWidth w) (e : w ≡ 9 * levels + 12) where
   number-of : (n : ℕ) → pageNumber w (start w 4096 n) ≡ n % 2 ^ (9 * levels)
   number-of n = ap (λ (x : ℕ). x / 4096) (sign-low w v (n * 4096)) ∙ rw e (field (n * 4096) (9 * levels) 12 ∙ ap (λ (x : ℕ). x % 2 ^ (9 * levels)) (shl-shr n 12))
 
-  number-back : (n : ℕ) → n < 2 ^ (9 * levels) → pageNumber w (start w 4096 n) ≡ n
+  pub number-back : (n : ℕ) → n < 2 ^ (9 * levels) → pageNumber w (start w 4096 n) ≡ n
   number-back n h = number-of n ∙ mod-eq-of-lt h
 
   start-whole : (n : ℕ) → start w 4096 n % 4096 ≡ 0
   start-whole n =
       sym (low-multiple w 12 v (v .above) (start w 4096 n)) ∙ ap (λ (x : ℕ). x % 4096) (sign-low w v (n * 4096)) ∙ low-multiple w 12 v (v .above) (n * 4096) ∙ mul-mod-left n 4096
 
-  is-page : (n : ℕ) → n < 2 ^ (9 * levels) → IsPage w n (pageItem w n)
+  pub is-page : (n : ℕ) → n < 2 ^ (9 * levels) → IsPage w n (pageItem w n)
   is-page n h =
       let b : n * 2 ^ 12 < 2 ^ w = rw (e, pow-add 2 (9 * levels) 12) (omega arith) in
       record { canonical-start = sign-canonical w v (n * 4096); low-start = sign-low w v (n * 4096) ∙ mod-eq-of-lt b; size = refl }
@@ -118,7 +118,7 @@ module _ (w levels : ℕ) (v : IsWidth w) (e : w ≡ 9 * levels + 12) where
     same-pages : translatedPages w levels image base root ≡ pages
     same-pages = ap (λ (f : ℕ → PageState). record { page = f; size = 2 ^ (9 * levels); high = 2 ^ (9 * levels - 1); span = λ l. 2 ^ (9 * (l - 1)) }) (fun-ext page-state)
 
-    passed : (n : ℕ) → searchRefusal w image base root (start w 4096 n) ≡ 0
+    pub passed : (n : ℕ) → searchRefusal w image base root (start w 4096 n) ≡ 0
     unfolding searchRefusal itemRefusal
     passed n = simp (ok, sign-canonical w v (n * 4096), eq-eqb (start w 4096 n % 4096) 0 (start-whole n))
 
@@ -134,16 +134,19 @@ module _ (w levels : ℕ) (v : IsWidth w) (e : w ≡ 9 * levels + 12) where
               (report w (search pages n), call-answered n h, report-exact (search pages n) (page-below (finds pages (spanned (entry 52 true) (tableAt image base) levels t .halves) n (omega arith)) refl));
         }
 
-    agrees : (replies : List (Outcome Report)) (passed : ℕ) → Calls (translatedPages w levels image base root) (Reports w) (callFrom w levels image base root) 0 replies passed
+    -- of a list of calls over the pages as the walk says
+    pub agrees : (replies : List (Outcome Report)) (passed : ℕ) → Calls pages (Reports w) (callFrom w levels image base root) 0 replies passed
         → Agreement (translatedPages w levels image base root) (Reports w) (callFrom w levels image base root) replies passed
-    agrees =
+    agrees replies passed calls =
         let call = callFrom w levels image base root in
-        subst (λ (s : Space). (replies : List (Outcome Report)) (passed : ℕ) → Calls s (Reports w) call 0 replies passed → Agreement s (Reports w) call replies passed) (sym same-pages)
-        (agreement pages (Reports w) call calls-search (spanned (entry 52 true) (tableAt image base) levels t))
+        subst (λ (s : Space). Agreement s (Reports w) call replies passed) (sym same-pages)
+        (agreement pages (Reports w) call calls-search (spanned (entry 52 true) (tableAt image base) levels t) replies passed calls)
 
 -- at every width and number of levels that fit each other
 pub runs-agree : (w levels : ℕ) → IsWidth w → w ≡ 9 * levels + 12 → RunsAgree w levels
-runs-agree = agrees
+runs-agree w levels v e image base root ok replies passed calls =
+    agrees w levels v e image base root ok replies passed
+    (subst (λ (s : Space). Calls s (Reports w) (callFrom w levels image base root) 0 replies passed) (same-pages w levels v e image base root ok) calls)
 
 pub runs-agree-48 : RunsAgree 48 4
 runs-agree-48 = runs-agree 48 4 (widths Bits48) refl

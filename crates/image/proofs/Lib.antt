@@ -11,3 +11,4 @@ pub mod ListKept
 pub mod ListWords
 pub mod ListTurns
 pub mod Agreement
+pub mod ListAgreement

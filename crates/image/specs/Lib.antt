@@ -9,3 +9,4 @@ pub mod Search
 pub mod Found
 pub mod List
 pub mod Agreement
+pub mod ListAgreement

@@ -6,6 +6,7 @@ use native.Mathlib.Omega.{arith}
 use native.Mathlib.Decide.{decLt}
 use native.Mathlib.Nat.{zero-add, suc-add}
 use borrow.Author.Tests.{lt-ltb, le-ltb}
+use lib.ListN.{length}
 use Rattle.laws.proofs.Cases.{by-cases}
 use Rattle.mapping.specs.Pages.{Space}
 use Rattle.mapping.specs.Search.{Answer, search, next, Searches, none, more, answersFrom, leftAfter}
@@ -36,6 +37,15 @@ module _ (s : Space) where
   some-searches (suc k) p =
       by-cases (decLt p (s .size)) (λ h. rw (lt-ltb p (s .size) h) (more h (some-searches k (next s (search s p)))))
       (λ n. rw (le-ltb p (s .size) (omega arith)) none)
+
+  -- where it is not over, all of them are there
+  pub all-there : (k p : ℕ) → leftAfter s k p < s .size → length (answersFrom s k p) ≡ k
+  unfolding answersFrom leftAfter
+  all-there zero p h = refl
+  all-there (suc k) p h =
+      by-cases (decLt p (s .size))
+      (λ i. rw (lt-ltb p (s .size) i) (ap suc (all-there k (next s (search s p)) (rw (lt-ltb p (s .size) i) at h))))
+      (λ n. let o = rw (le-ltb p (s .size) (omega arith)) at h in absurd (n o))
 
   -- lists that follow each other are one
   pub join : {p e o : ℕ} {answers later : List Answer} → Searches s p answers e → Searches s e later o → Searches s p (answers ++ later) o

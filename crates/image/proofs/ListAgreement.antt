@@ -1,0 +1,150 @@
+-- What `list` writes, in one call or in several that follow each other, is the replies of a list of searches, so that it agrees with translating the pages singly.
+use Prim.Native.Nat.{ℕ, _+_, _*_, _/_, _^_, _≤_, _<_}
+use mathlib.Core.Path.{_≡_, refl, sym, ap, _∙_}
+use mathlib.Core.Bool.{Bool, true, false, cond}
+use mathlib.Core.List.{List, [], _∷_, _++_, map, map-append}
+use mathlib.Core.Option.{Option, none, some}
+use native.Mathlib.Omega.{arith}
+use native.Mathlib.Nat.{zero-div, zero-mod}
+use lib.Dec.{ltb}
+use lib.ListN.{length, length-map, take, drop}
+use lib.Seq.{take-at}
+use lib.Pow.{pow-pos}
+use borrow.Author.Tests.{ltb-true, ltb-false}
+use Rattle.answer.specs.Outcome.{Outcome, gives}
+use Rattle.laws.specs.Width.{IsWidth, signExtend}
+use Rattle.laws.specs.Number.{start}
+use Rattle.mapping.specs.Pages.{Space}
+use Rattle.mapping.specs.Search.{Answer, search, Searches, answersFrom, leftAfter}
+use Rattle.mapping.specs.Search as searches
+use Rattle.mapping.specs.Agreement.{Calls}
+use Rattle.mapping.specs.Agreement as calls
+use Rattle.mapping.proofs.Some.{some-searches, all-there, join}
+use Rattle.addr.specs.Item.{Item}
+use Rattle.addr.specs.declared.width.Width.the-variants.{Bits48}
+use Rattle.addr.proofs.Widths.{widths}
+use Rattle.image.specs.Translate.{imageRefusal, rootTable}
+use Rattle.image.specs.Search.{Report, pageItem, report, imagePages}
+use Rattle.image.specs.List.{Listed, Listing, allWords, reportsFrom, room, listedFrom, settled, listing}
+use Rattle.image.specs.Agreement.{Reports, callFrom}
+use Rattle.image.specs.ListAgreement.{Chain, one, more, Answered, ChainAgrees, ListsAgree}
+use Rattle.image.proofs.ListWords.{all-length, all-append}
+use Rattle.image.proofs.Agreement.{number-back, is-page, passed, call-answered, calls-search, agrees}
+
+-- the page that a list leaves, by whether there is one
+left-some : (k n : ℕ) (x p : Item) → cond (ltb n k) (some x) none ≡ some p → (n < k) × (x ≡ p)
+left-some k n x p = go (ltb n k) refl
+  where
+    go : (b : Bool) → ltb n k ≡ b → cond b (some x) none ≡ some p → (n < k) × (x ≡ p)
+    go true t e = (ltb-true n k t, cc)
+    go false t e = absurd (let z : _≡_ {A = ℕ} 0 1 = cc in omega arith)
+
+left-none : (k n : ℕ) (x : Item) → cond (ltb n k) (some x) none ≡ none → k ≤ n
+left-none k n x = go (ltb n k) refl
+  where
+    go : (b : Bool) → ltb n k ≡ b → cond b (some x) none ≡ none → k ≤ n
+    go true t e = absurd (let z : _≡_ {A = ℕ} 0 1 = cc in omega arith)
+    go false t e = ltb-false n k t
+
+first-start : (w : ℕ) → start w 4096 0 ≡ 0
+unfolding signExtend
+first-start w = simp (zero-div, zero-mod)
+
+module _ (w levels : ℕ) (v : IsWidth w) (e : w ≡ 9 * levels + 12) (image : List ℕ) (base root : ℕ) (ok : imageRefusal image base root ≡ 0) where
+  abbrev pages : Space
+  pages = imagePages levels image base (rootTable image base root)
+
+  abbrev call : ℕ → List ℕ → Listing
+  call = listing w levels image base root
+
+  listed : (n : ℕ) (out : List ℕ) → n < pages .size → call (start w 4096 n) out ≡ settled w (gives pages) n out
+  unfolding listing
+  listed n out h = rw (passed w levels v e image base root ok n, number-back w levels v e n h)
+
+  answered : (n : ℕ) → n < pages .size → (out : List ℕ) → Answered call (start w 4096 n) out
+  answered n h out = (
+    listedFrom w pages n out,
+    ap (λ (r : Listing). r .answer) (listed n out h),
+    λ p x. all-there pages (room out) n (left-some (pages .size) (leftAfter pages (room out) n) (pageItem w (leftAfter pages (room out) n)) p x .0),
+  )
+
+  -- what a chain from page n wrote and left
+  record Drawn (n : ℕ) (words : List ℕ) (left : Option Item) : Type 0 where
+    answers : List Answer
+    reached : ℕ
+    searched : Searches pages n answers reached
+    written : words ≡ allWords (map (report w) answers)
+    remains : left ≡ cond (ltb reached (pages .size)) (some (pageItem w reached)) none
+
+  -- one call
+  first-call : (n : ℕ) (l : Listed) (out : List ℕ) → n < pages .size → call (start w 4096 n) out .answer ≡ gives l
+      → Drawn n (take (5 * l .written) (call (start w 4096 n) out .words)) (l .next)
+  first-call n l out h g =
+      let c = listed n out h in
+      let rs = reportsFrom w pages (room out) n in
+      let same : l ≡ listedFrom w pages n out = cc in
+      let five : length (allWords rs) ≡ 5 * length (answersFrom pages (room out) n) = all-length rs ∙ ap (λ (k : ℕ). 5 * k) (length-map (answersFrom pages (room out) n) (report w)) in
+      record {
+        answers = answersFrom pages (room out) n;
+        reached = leftAfter pages (room out) n;
+        searched = some-searches pages (room out) n;
+        written = rw (c, same) (take-at (allWords rs) (drop (length (allWords rs)) out) (5 * length (answersFrom pages (room out) n)) five);
+        remains = ap (λ (x : Listed). x .next) same;
+      }
+
+  -- a chain that goes on where one ended
+  then : (n : ℕ) (words later : List ℕ) (left end : Option Item) (d : Drawn n words left) → Drawn (d .reached) later end → Drawn n (words ++ later) end
+  then n words later left end d f =
+      record {
+        answers = d .answers ++ f .answers;
+        reached = f .reached;
+        searched = join pages (d .searched) (f .searched);
+        written =
+            ap (λ (x : List ℕ). x ++ later) (d .written)
+            ∙ ap (λ (x : List ℕ). allWords (map (report w) (d .answers)) ++ x) (f .written)
+            ∙ sym (all-append (map (report w) (d .answers)) (map (report w) (f .answers)))
+            ∙ ap allWords (sym (map-append (report w) (d .answers) (f .answers)));
+        remains = f .remains;
+      }
+
+  chain-drawn : {a : ℕ} {words : List ℕ} {left : Option Item} → Chain call a words left → (n : ℕ) → n < pages .size → a ≡ start w 4096 n → Drawn n words left
+  chain-drawn (one {a} {l} out g) n h q = rw q (first-call n l out h (rw q at g))
+  chain-drawn (more {a} {l} {p} {words} {e = end} out g x rest) n h q =
+      let d = first-call n l out h (rw q at g) in
+      let (i, y) = left-some (pages .size) (d .reached) (pageItem w (d .reached)) p (sym (d .remains) ∙ x) in
+      let f = chain-drawn rest (d .reached) i (ap (λ (k : Item). k .start) (sym y)) in
+      rw q (then n (take (5 * l .written) (call (start w 4096 n) out .words)) words (l .next) end d f)
+
+  -- a list of searches as calls, with what they reply
+  called : {n o : ℕ} {answers : List Answer} → Searches pages n answers o
+      → Calls pages (Reports w) (callFrom w levels image base root) n (map gives (map (report w) answers)) o
+  called searches.none = calls.none
+  called (searches.more {p = n} h r) =
+      rw (← call-answered w levels v e image base root ok n h)
+      (calls.more h (calls-search w levels v e image base root ok .answer n h) (called r))
+
+  chain-agrees : (words : List ℕ) (left : Option Item) → Drawn 0 words left → ChainAgrees w levels image base root words left
+  chain-agrees words left d =
+      let agreement = agrees w levels v e image base root ok (map gives (map (report w) (d .answers))) (d .reached) (called (d .searched)) in
+      let some-left : (p : Item) → left ≡ some p → (d .reached < pages .size) × (pageItem w (d .reached) ≡ p)
+      = λ p x. left-some (pages .size) (d .reached) (pageItem w (d .reached)) p (sym (d .remains) ∙ x) in
+      record {
+        reports = map (report w) (d .answers);
+        passed = d .reached;
+        written = d .written;
+        agreement = agreement;
+        next-page = λ p x. (some-left p x .0, rw (← some-left p x .1) (is-page w levels v e (d .reached) (some-left p x .0)));
+        over = λ x. omega (arith, left-none (pages .size) (d .reached) (pageItem w (d .reached)) (sym (d .remains) ∙ x), agreement .agrees .inside);
+        goes-on = λ p x out. rw (← some-left p x .1) (answered (d .reached) (some-left p x .0) out);
+      }
+
+-- at every width and number of levels that fit each other
+pub lists-agree : (w levels : ℕ) → IsWidth w → w ≡ 9 * levels + 12 → ListsAgree w levels
+lists-agree w levels v e image base root ok =
+    let h : 0 < 2 ^ (9 * levels) = pow-pos (9 * levels) in (
+      λ out. rw (first-start w) at (answered w levels v e image base root ok 0 h out),
+      λ words left c. chain-agrees w levels v e image base root ok words left (chain-drawn w levels v e image base root ok c 0 h (sym (first-start w))),
+    )
+
+pub lists-agree-48 : ListsAgree 48 4
+lists-agree-48 = lists-agree 48 4 (widths Bits48) refl
