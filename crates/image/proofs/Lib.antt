@@ -12,3 +12,4 @@ pub mod ListWords
 pub mod ListTurns
 pub mod Agreement
 pub mod ListAgreement
+pub mod Unread

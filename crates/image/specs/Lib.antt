@@ -10,3 +10,4 @@ pub mod Found
 pub mod List
 pub mod Agreement
 pub mod ListAgreement
+pub mod Unread

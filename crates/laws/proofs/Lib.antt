@@ -1,3 +1,4 @@
+pub mod Bits
 pub mod Cases
 pub mod Width
 pub mod Steps
