@@ -10,6 +10,7 @@ mod width;
 
 pub use align::align_down;
 pub use align::align_up;
+pub use phys_addr::PHYS_SIZE;
 pub use phys_addr::PhysAddr;
 pub use phys_addr::PhysAnswer;
 pub use virt_addr::VirtAddr;

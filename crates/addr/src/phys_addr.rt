@@ -15,7 +15,7 @@ ghost use Rattle.addr.specs.Answers.{physOf};
 ghost use Rattle.addr.specs.Address.{phys, address, isNull, isAligned, plus, minus, distance, alignDownPhys, alignUpPhys};
 
 // How many physical addresses there are: 2^52.
-const SIZE: u64 = 0x10_0000_0000_0000;
+pub const PHYS_SIZE: u64 = 0x10_0000_0000_0000;
 
 pub struct PhysAddr(pub u64);
 
@@ -36,7 +36,7 @@ impl PhysAddr {
     pub fn try_new(addr: u64) -> PhysAnswer
         ensures { λ r. ⌜ physOf r ≡ address (phys 52) addr ⌝ }
     {
-        if addr < SIZE {
+        if addr < PHYS_SIZE {
             PhysAnswer::Addr(PhysAddr(addr))
         } else {
             PhysAnswer::Refused(NOT_PHYSICAL)
@@ -47,7 +47,7 @@ impl PhysAddr {
     pub fn new_truncate(addr: u64) -> PhysAddr
         ensures { λ r. ⌜ r .0 ≡ addr % 2 ^ 52 ⌝ }
     {
-        PhysAddr(addr % SIZE)
+        PhysAddr(addr % PHYS_SIZE)
     }
 
     pub fn zero() -> PhysAddr
@@ -61,7 +61,7 @@ impl PhysAddr {
         ensures { λ r. ⌜ u64Of r ≡ address (phys 52) (self .0) ⌝ }
     {
         let a = self.0;
-        if a < SIZE {
+        if a < PHYS_SIZE {
             U64Answer::Value(a)
         } else {
             U64Answer::Refused(NOT_PHYSICAL)
@@ -73,7 +73,7 @@ impl PhysAddr {
         ensures { λ r. ⌜ boolOf r ≡ isNull (phys 52) (self .0) ⌝ }
     {
         let a = self.0;
-        if a < SIZE {
+        if a < PHYS_SIZE {
             BoolAnswer::Value(a == 0)
         } else {
             BoolAnswer::Refused(NOT_PHYSICAL)
@@ -86,14 +86,14 @@ impl PhysAddr {
         ensures { λ r. ⌜ physOf r ≡ alignUpPhys 52 (self .0) align ⌝ }
     {
         let a = self.0;
-        if SIZE <= a {
+        if PHYS_SIZE <= a {
             return PhysAnswer::Refused(NOT_PHYSICAL);
         }
         if !is_power_of_two(align) {
             return PhysAnswer::Refused(NOT_POWER_OF_TWO);
         }
         let more = padding(a, align);
-        if SIZE - a <= more {
+        if PHYS_SIZE - a <= more {
             return PhysAnswer::Refused(RESULT_NOT_PHYSICAL);
         }
         PhysAnswer::Addr(PhysAddr(a + more))
@@ -104,7 +104,7 @@ impl PhysAddr {
         ensures { λ r. ⌜ physOf r ≡ alignDownPhys 52 (self .0) align ⌝ }
     {
         let a = self.0;
-        if SIZE <= a {
+        if PHYS_SIZE <= a {
             return PhysAnswer::Refused(NOT_PHYSICAL);
         }
         if !is_power_of_two(align) {
@@ -118,7 +118,7 @@ impl PhysAddr {
         ensures { λ r. ⌜ boolOf r ≡ isAligned (phys 52) (self .0) align ⌝ }
     {
         let a = self.0;
-        if SIZE <= a {
+        if PHYS_SIZE <= a {
             return BoolAnswer::Refused(NOT_PHYSICAL);
         }
         if !is_power_of_two(align) {
@@ -132,14 +132,14 @@ impl PhysAddr {
         ensures { λ r. ⌜ physOf r ≡ plus (phys 52) (self .0) count ⌝ }
     {
         let a = self.0;
-        if SIZE <= a {
+        if PHYS_SIZE <= a {
             return PhysAnswer::Refused(NOT_PHYSICAL);
         }
         if u64::MAX - a < count {
             return PhysAnswer::Refused(OVERFLOW);
         }
         let sum = a + count;
-        if sum < SIZE {
+        if sum < PHYS_SIZE {
             PhysAnswer::Addr(PhysAddr(sum))
         } else {
             PhysAnswer::Refused(RESULT_NOT_PHYSICAL)
@@ -151,7 +151,7 @@ impl PhysAddr {
         ensures { λ r. ⌜ physOf r ≡ minus (phys 52) (self .0) count ⌝ }
     {
         let a = self.0;
-        if SIZE <= a {
+        if PHYS_SIZE <= a {
             return PhysAnswer::Refused(NOT_PHYSICAL);
         }
         if a < count {
@@ -166,10 +166,10 @@ impl PhysAddr {
     {
         let a = self.0;
         let b = other.0;
-        if SIZE <= a {
+        if PHYS_SIZE <= a {
             return U64Answer::Refused(NOT_PHYSICAL);
         }
-        if SIZE <= b {
+        if PHYS_SIZE <= b {
             return U64Answer::Refused(NOT_PHYSICAL);
         }
         if a < b {

@@ -4,7 +4,9 @@ ghost use Prim.Native.Nat.{_^_};
 ghost use Rattle.laws.specs.Width.{low, signExtend, canonical};
 ghost use Rattle.addr.specs.Widths.{widthOf};
 
-// 48 bits with four levels of tables, 57 with five.
+// 48 bits with four levels of tables, 57 with five. The names of the source, and all that pages, images
+// and the C interface offer, are at 48 bits; 57 is prepared for boards with five levels, whose fifth
+// index no call gives yet.
 pub enum Width {
     Bits48,
     Bits57,

@@ -37,10 +37,6 @@ resultNotPhysical = 8
 abbrev pub indexTooLarge : ℕ
 indexTooLarge = 9
 
--- "`try_from_pfn`: 12 exactly if number × size ≥ 2^52"
-abbrev pub pfnTooLarge : ℕ
-pfnTooLarge = 12
-
 -- "Page draws: 10."
 abbrev pub drawMeetsGap : ℕ
 drawMeetsGap = 10
@@ -49,10 +45,14 @@ drawMeetsGap = 10
 abbrev pub drawLeavesMemory : ℕ
 drawLeavesMemory = 11
 
--- "then 14 if the root's 512 words aren't wholly inside"
-abbrev pub rootOutside : ℕ
-rootOutside = 14
+-- "`try_from_pfn`: 12 exactly if number × size ≥ 2^52"
+abbrev pub pfnTooLarge : ℕ
+pfnTooLarge = 12
 
 -- "`refused 13` if the version, N or file length is wrong"
 abbrev pub wrongFile : ℕ
 wrongFile = 13
+
+-- "then 14 if the root's 512 words aren't wholly inside"
+abbrev pub rootOutside : ℕ
+rootOutside = 14

@@ -22,9 +22,7 @@ pub(crate) const RUN: u64 = 1;
 
 pub(crate) const RESERVED: u64 = 2;
 
-pub(crate) const OUTSIDE: u64 = 3;
-
-// An answer: its kind, its page, the first frame of a run or the level of a stop, a run's count, and its rights as three bits.
+// An answer: its kind (0 end, 1 run, 2 and 3 a stop that is reserved or outside), its page, the first frame of a run or the level of a stop, a run's count, and its rights as three bits.
 pub(crate) struct Found {
     pub(crate) kind: u64,
     pub(crate) page: u64,

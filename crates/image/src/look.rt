@@ -2,6 +2,7 @@
 use crate::entry::address_in;
 use crate::entry::frame_in;
 use crate::entry::is_set;
+use crate::memory::TABLE_WORDS;
 use crate::memory::table_at;
 use crate::span::span_pages;
 ghost use mathlib.Core.Bool.{true};
@@ -56,7 +57,7 @@ pub(crate) fn look_at(image: &[u64], base: u64, table: u64, below: u64, page: u6
     ensures { λ r. ⌜ r ≡ lookIn (tableAt (now (image .entry)) base table) below page ⌝ }
 {
     let words = table_at(image, base, table);
-    if words.len() < 512 {
+    if words.len() < TABLE_WORDS {
         return Look::Outside;
     }
     let word = words[((page >> (9 * below)) & 511) as usize];

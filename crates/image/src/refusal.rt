@@ -1,5 +1,7 @@
 // The test of an image handed in.
+use crate::memory::TABLE_WORDS;
 use crate::memory::table_at;
+use addr::PHYS_SIZE;
 use answer::NOT_ALIGNED;
 use answer::NOT_PHYSICAL;
 use answer::ROOT_OUTSIDE;
@@ -12,7 +14,7 @@ ghost use Rattle.image.specs.Translate.{imageRefusal};
 fn table_refusal(table: u64) -> u8
     ensures { λ r. ⌜ r ≡ itemRefusal (phys 52) table 0x1000 ⌝ }
 {
-    if 0x10_0000_0000_0000 <= table {
+    if PHYS_SIZE <= table {
         return NOT_PHYSICAL;
     }
     if table % 0x1000 == 0 { 0 } else { NOT_ALIGNED }
@@ -31,5 +33,9 @@ pub(crate) fn image_refusal(image: &[u64], base: u64, root: u64) -> u8
         return refused;
     }
     let words = table_at(image, base, root);
-    if words.len() < 512 { ROOT_OUTSIDE } else { 0 }
+    if words.len() < TABLE_WORDS {
+        ROOT_OUTSIDE
+    } else {
+        0
+    }
 }

@@ -8,7 +8,7 @@ ghost use Rattle.table.specs.Answers.{indexOf};
 ghost use Rattle.table.specs.Index.{small, indexForward, indexBackward, indexSteps};
 
 // How many entries a table has.
-const ENTRY_COUNT: u16 = 512;
+pub const ENTRY_COUNT: u16 = 512;
 
 pub struct PageTableIndex(pub u16);
 
@@ -23,7 +23,7 @@ impl PageTableIndex {
     pub fn new(index: u64) -> IndexAnswer
         ensures { λ r. ⌜ indexOf r ≡ small 512 index ⌝ }
     {
-        if index < 512 {
+        if index < ENTRY_COUNT as u64 {
             IndexAnswer::Index(PageTableIndex(index as u16))
         } else {
             IndexAnswer::Refused(INDEX_TOO_LARGE)
@@ -34,7 +34,7 @@ impl PageTableIndex {
     pub fn new_truncate(index: u64) -> PageTableIndex
         ensures { λ r. ⌜ r .0 ≡ index % 512 ⌝ }
     {
-        PageTableIndex((index % 512) as u16)
+        PageTableIndex((index % ENTRY_COUNT as u64) as u16)
     }
 
     // The index's number; 9 if it is no index.

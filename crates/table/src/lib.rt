@@ -5,6 +5,7 @@ mod level;
 mod offset;
 mod size;
 
+pub use index::ENTRY_COUNT;
 pub use index::IndexAnswer;
 pub use index::PageTableIndex;
 pub use level::LevelAnswer;
