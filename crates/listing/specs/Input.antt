@@ -6,7 +6,6 @@ use lib.Dec.{leb, eqb}
 use lib.ListN.{length, take, drop}
 use Rattle.answer.specs.Outcome.{Outcome, gives, refuses, unless}
 use Rattle.answer.specs.Refusal.{wrongFile}
-use Rattle.listing.specs.declared.input.Header as code
 use Rattle.listing.specs.declared.input.HeaderAnswer.{HeaderAnswer}
 use Rattle.listing.specs.declared.input.HeaderAnswer.the-variants as answer
 
