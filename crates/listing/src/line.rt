@@ -6,21 +6,24 @@ ghost use mathlib.Core.List.{_∷_, []};
 ghost use mathlib.Core.Bool.{cond};
 ghost use lib.ListN.{length};
 ghost use Rattle.listing.specs.Text as Text;
-ghost use Rattle.listing.specs.Text.{textOf, lineOf, runLine, stopLine, endLine, moreLine, refusedLine};
+ghost use Rattle.listing.specs.Text.{lineBytes, textOf, lineOf, runLine, stopLine, endLine, moreLine, refusedLine};
 ghost use Rattle.listing.specs.Growth.{Room, Longer};
 
-// A line of at most 64 bytes, the longest there is.
+// The bytes of a line: no text is longer.
+pub const LINE_BYTES: usize = 64;
+
+// A text, and zeros behind it.
 pub struct Line {
-    pub bytes: [u8; 64],
+    pub bytes: [u8; LINE_BYTES],
     pub len: usize,
 }
 
 impl Line {
     fn new() -> Line
-        ensures { λ r. ⌜ (textOf r ≡ []) × Room 64 r ⌝ }
+        ensures { λ r. ⌜ (textOf r ≡ []) × Room lineBytes r ⌝ }
     {
         Line {
-            bytes: [0; 64],
+            bytes: [0; LINE_BYTES],
             len: 0,
         }
     }
