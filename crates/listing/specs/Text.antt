@@ -1,11 +1,10 @@
 -- The lines of the program `runs`, as ASCII. The sentences are those of document 01, "Program `runs`".
-use Prim.Native.Nat.{ℕ, zero, suc, _+_, _/_, _%_}
+use Prim.Native.Nat.{ℕ, zero, suc, _-_, _/_, _%_}
 use mathlib.Core.Bool.{Bool, cond}
 use mathlib.Core.List.{List, [], _∷_, _++_}
-use mathlib.Core.Path.{_≡_}
 use lib.Dec.{ltb}
 use Rattle.io.specs.Digits.{glyph, digits}
-use lib.ListN.{length, take}
+use lib.ListN.{length, take, replicate}
 use Rattle.listing.specs.declared.line.Line.{Line}
 
 -- "addresses in 16 lower-case hex digits"
@@ -75,10 +74,14 @@ moreLine p = moreWord ++ (hex p ++ newline)
 unfoldable pub refusedLine : ℕ → List ℕ
 refusedLine k = refusedWord ++ (decimal k ++ newline)
 
+-- the bytes of a line
+abbrev pub lineBytes : ℕ
+lineBytes = 64
+
+-- the line that holds a text: behind the text its bytes are zero
+unfoldable pub lineOf : List ℕ → Line
+lineOf text = record { bytes = text ++ replicate (lineBytes - length text) 0; len = length text }
+
 -- the text of a line
 abbrev pub textOf : Line → List ℕ
 textOf l = take (l .len) (l .bytes)
-
--- a line that has this text and no more
-abbrev pub Reads : List ℕ → Line → Type 0
-Reads text l = (l .len ≡ length text) × (textOf l ≡ text)

@@ -4,13 +4,16 @@ ghost use mathlib.Core.Path.{_≡_};
 ghost use mathlib.Core.List.{_++_};
 ghost use Prim.Native.Nat.{_+_, _-_, _/_, _≤_, min};
 ghost use lib.ListN.{length, drop};
-ghost use Rattle.listing.specs.Input.{field, headerIn, headerOf, wordsFrom};
+ghost use Rattle.listing.specs.Input.{field, headerBytes, headerIn, headerOf, wordBytes, wordsFrom};
+
+// The bytes of a word; base and root have as many.
+const WORD_BYTES: usize = 8;
 
 // The bytes before the words.
-const HEADER: usize = 21;
+const HEADER_BYTES: usize = 21;
 
 // The most words that a file may have.
-const MOST: u64 = 7680;
+pub const MOST_WORDS: usize = 7680;
 
 pub struct Header {
     pub words: u64,
@@ -25,7 +28,7 @@ pub enum HeaderAnswer {
 
 // The number in the k bytes from place i on.
 fn field_at(bytes: &[u8], i: usize, k: usize) -> u64
-    requires { ⌜ (k ≤ 8) × (i + k ≤ length (now bytes)) ⌝ }
+    requires { ⌜ (k ≤ wordBytes) × (i + k ≤ length (now bytes)) ⌝ }
     ensures { λ r. ⌜ r ≡ field (now (bytes .entry)) i k ⌝ }
 {
     let mut n = 0u64;
@@ -42,41 +45,45 @@ fn field_at(bytes: &[u8], i: usize, k: usize) -> u64
 pub fn read_header(bytes: &[u8]) -> HeaderAnswer
     ensures { λ r. ⌜ headerIn r ≡ headerOf (now (bytes .entry)) ⌝ }
 {
-    if bytes.len() < HEADER {
+    if bytes.len() < HEADER_BYTES {
         return HeaderAnswer::Refused(WRONG_FILE);
     }
     if field_at(bytes, 0, 1) != 1 {
         return HeaderAnswer::Refused(WRONG_FILE);
     }
-    let words = field_at(bytes, 1, 4);
-    if MOST < words {
+    let words = field_at(bytes, 1, 4) as usize;
+    if MOST_WORDS < words {
         return HeaderAnswer::Refused(WRONG_FILE);
     }
-    if bytes.len() as u64 != 21 + 8 * words {
+    if bytes.len() != HEADER_BYTES + WORD_BYTES * words {
         return HeaderAnswer::Refused(WRONG_FILE);
     }
-    let base = field_at(bytes, 5, 8);
-    let root = field_at(bytes, 13, 8);
-    HeaderAnswer::Header(Header { words, base, root })
+    let base = field_at(bytes, 5, WORD_BYTES);
+    let root = field_at(bytes, 13, WORD_BYTES);
+    HeaderAnswer::Header(Header {
+        words: words as u64,
+        base,
+        root,
+    })
 }
 
 // Puts the words behind the header into out, as many as there are and have room, and answers how many.
-pub fn read_words(bytes: &[u8], out: &mut [u64]) -> usize
-    ensures { λ r. ⌜ r ≡ min ((length (now (bytes .entry)) - 21) / 8) (length (now (out .entry))) ⌝ }
-    ensures { λ r. ⌜ now (out .exit) ≡ wordsFrom (now (bytes .entry)) 21 r ++ drop r (now (out .entry)) ⌝ }
+pub fn read_words(bytes: &[u8], out: &mut [u64]) -> u64
+    ensures { λ r. ⌜ r ≡ min ((length (now (bytes .entry)) - headerBytes) / wordBytes) (length (now (out .entry))) ⌝ }
+    ensures { λ r. ⌜ now (out .exit) ≡ wordsFrom (now (bytes .entry)) headerBytes r ++ drop r (now (out .entry)) ⌝ }
 {
     let mut n = 0;
-    let mut at = HEADER;
+    let mut at = HEADER_BYTES;
     while n < out.len() {
         if bytes.len() < at {
-            return n;
+            return n as u64;
         }
-        if bytes.len() - at < 8 {
-            return n;
+        if bytes.len() - at < WORD_BYTES {
+            return n as u64;
         }
-        out[n] = field_at(bytes, at, 8);
+        out[n] = field_at(bytes, at, WORD_BYTES);
         n += 1;
-        at += 8;
+        at += WORD_BYTES;
     }
-    n
+    n as u64
 }

@@ -4,8 +4,10 @@ mod line;
 
 pub use input::Header;
 pub use input::HeaderAnswer;
+pub use input::MOST_WORDS;
 pub use input::read_header;
 pub use input::read_words;
+pub use line::LINE_BYTES;
 pub use line::Line;
 pub use line::end_line;
 pub use line::more_line;

@@ -6,21 +6,24 @@ ghost use mathlib.Core.List.{_∷_, []};
 ghost use mathlib.Core.Bool.{cond};
 ghost use lib.ListN.{length};
 ghost use Rattle.listing.specs.Text as Text;
-ghost use Rattle.listing.specs.Text.{textOf, Reads, runLine, stopLine, endLine, moreLine, refusedLine};
+ghost use Rattle.listing.specs.Text.{lineBytes, textOf, lineOf, runLine, stopLine, endLine, moreLine, refusedLine};
 ghost use Rattle.listing.specs.Growth.{Room, Longer};
 
-// A line of at most 64 bytes, the longest there is.
+// The bytes of a line: no text is longer.
+pub const LINE_BYTES: usize = 64;
+
+// A text, and zeros behind it.
 pub struct Line {
-    pub bytes: [u8; 64],
+    pub bytes: [u8; LINE_BYTES],
     pub len: usize,
 }
 
 impl Line {
     fn new() -> Line
-        ensures { λ r. ⌜ (textOf r ≡ []) × Room 64 r ⌝ }
+        ensures { λ r. ⌜ (textOf r ≡ []) × Room lineBytes r ⌝ }
     {
         Line {
-            bytes: [0; 64],
+            bytes: [0; LINE_BYTES],
             len: 0,
         }
     }
@@ -87,7 +90,7 @@ pub fn run_line(
     user: bool,
     no_execute: bool,
 ) -> Line
-    ensures { λ r. ⌜ Reads (runLine page frame count writable user «no_execute») r ⌝ }
+    ensures { λ r. ⌜ r ≡ lineOf (runLine page frame count writable user «no_execute») ⌝ }
 {
     let head = [b'r', b'u', b'n', b' '];
     let w = either(writable, b'w', b'-');
@@ -104,7 +107,7 @@ pub fn run_line(
 
 // `stop PAGE LEVEL reserved` or `stop PAGE LEVEL outside`
 pub fn stop_line(page: u64, level: u64, reserved: bool) -> Line
-    ensures { λ r. ⌜ Reads (stopLine page level reserved) r ⌝ }
+    ensures { λ r. ⌜ r ≡ lineOf (stopLine page level reserved) ⌝ }
 {
     let head = [b's', b't', b'o', b'p', b' '];
     let line = Line::new()
@@ -122,7 +125,7 @@ pub fn stop_line(page: u64, level: u64, reserved: bool) -> Line
 
 // `end`
 pub fn end_line() -> Line
-    ensures { λ r. ⌜ Reads endLine r ⌝ }
+    ensures { λ r. ⌜ r ≡ lineOf endLine ⌝ }
 {
     let text = [b'e', b'n', b'd', b'\n'];
     Line::new().with(&text)
@@ -130,7 +133,7 @@ pub fn end_line() -> Line
 
 // `more PAGE`
 pub fn more_line(page: u64) -> Line
-    ensures { λ r. ⌜ Reads (moreLine page) r ⌝ }
+    ensures { λ r. ⌜ r ≡ lineOf (moreLine page) ⌝ }
 {
     let head = [b'm', b'o', b'r', b'e', b' '];
     Line::new().with(&head).with_hex(page).with_byte(b'\n')
@@ -138,7 +141,7 @@ pub fn more_line(page: u64) -> Line
 
 // `refused` and the number
 pub fn refused_line(number: u64) -> Line
-    ensures { λ r. ⌜ Reads (refusedLine number) r ⌝ }
+    ensures { λ r. ⌜ r ≡ lineOf (refusedLine number) ⌝ }
 {
     let head = [b'r', b'e', b'f', b'u', b's', b'e', b'd', b' '];
     Line::new()

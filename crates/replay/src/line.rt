@@ -2,14 +2,14 @@
 ghost use Prim.Native.Nat.{_≤_};
 
 // As many numbers as a line can have.
-const MOST: usize = 16;
+pub(crate) const MOST_FIELDS: usize = 16;
 
 // The numbers so far, the one being read, and whether all was as it should be.
-pub struct Line {
-    pub fields: [u64; 16],
-    pub count: usize,
-    pub value: u64,
-    pub good: bool,
+pub(crate) struct Line {
+    pub(crate) fields: [u64; MOST_FIELDS],
+    pub(crate) count: usize,
+    value: u64,
+    pub(crate) good: bool,
 }
 
 // The value of a digit; 16 for another byte.
@@ -34,7 +34,7 @@ fn digit(byte: u8) -> u64
 impl Line {
     pub(crate) fn new() -> Line {
         Line {
-            fields: [0; 16],
+            fields: [0; MOST_FIELDS],
             count: 0,
             value: 0,
             good: true,
@@ -55,7 +55,7 @@ impl Line {
     // The number being read is complete.
     pub(crate) fn pushed(self) -> Line {
         let count = self.count;
-        if MOST <= count {
+        if MOST_FIELDS <= count {
             return self.spoilt();
         }
         let mut fields = self.fields;

@@ -9,11 +9,11 @@ use libc::STDIN_FILENO;
 use libc::STDOUT_FILENO;
 
 // The line being read, how many were read, how many of them differ, and the first that does.
-pub struct Replay {
-    pub line: Line,
-    pub lines: u64,
-    pub differ: u64,
-    pub first: u64,
+struct Replay {
+    line: Line,
+    lines: u64,
+    differ: u64,
+    first: u64,
 }
 
 // A counter that stays at its top.

@@ -1,6 +1,7 @@
 // A question of the list, asked of the C interface. The operations' numbers are those of
 // oracle/compare/src/operations/.
 use crate::line::Line;
+use crate::line::MOST_FIELDS;
 use wuohtan::align;
 use wuohtan::frame_ranges;
 use wuohtan::frames;
@@ -254,7 +255,7 @@ fn ask(operation: u64, a: u64, b: u64, c: u64, d: u64, n: u64, out: &mut [u64]) 
 }
 
 // Whether the first k words of out are those of the line from a place on.
-fn same_words(out: [u64; 8], fields: [u64; 16], place: usize, k: usize) -> bool
+fn same_words(out: [u64; 8], fields: [u64; MOST_FIELDS], place: usize, k: usize) -> bool
     requires { ⌜ (k ≤ 4) × (place ≤ 8) ⌝ }
 {
     let mut i = 0;

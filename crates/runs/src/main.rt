@@ -9,7 +9,9 @@ use libc::STDIN_FILENO;
 use libc::STDOUT_FILENO;
 use listing::Header;
 use listing::HeaderAnswer;
+use listing::LINE_BYTES;
 use listing::Line;
+use listing::MOST_WORDS;
 use listing::end_line;
 use listing::more_line;
 use listing::read_header;
@@ -18,14 +20,23 @@ use listing::refused_line;
 use listing::run_line;
 use listing::stop_line;
 use page::Page;
-ghost use Prim.Native.Nat.{_+_, _≤_};
+ghost use Prim.Native.Nat.{_+_, _*_, _/_, _≤_};
 ghost use lib.ListN.{length};
+ghost use Rattle.listing.specs.Text.{lineBytes};
+ghost use Rattle.runs.specs.Sizes.{answerWords, outputBytes};
 
-// How many words an answer has in a list.
-const WORDS: usize = 5;
+// The most runs and stops that are printed.
+const MOST_LINES: usize = 4096;
 
-// The most bytes of a line.
-const LINE: usize = 64;
+// The words that an answer has in a list: its kind, its page, its frame or its level, its count, its rights.
+const ANSWER_WORDS: usize = 5;
+
+// The kinds of answers, but for a stop outside the image.
+const END: u64 = 0;
+
+const RUN: u64 = 1;
+
+const RESERVED: u64 = 2;
 
 fn least(a: usize, b: usize) -> usize
     ensures { λ r. ⌜ (r ≤ a) × (r ≤ b) ⌝ }
@@ -33,15 +44,12 @@ fn least(a: usize, b: usize) -> usize
     if a < b { a } else { b }
 }
 
-// Puts a line behind the bytes in use and answers how many are in use then. Without room for a line nothing is put.
-fn put(out: &mut [u8], used: usize, line: Line) -> usize {
-    if out.len() < LINE {
-        return used;
-    }
-    if out.len() - LINE < used {
-        return used;
-    }
-    let n = least(line.len, LINE);
+// Puts a line behind the bytes in use and answers how many are in use then.
+fn put(out: &mut [u8], used: usize, line: Line) -> usize
+    requires { ⌜ used + lineBytes ≤ length (now out) ⌝ }
+    ensures { λ r. ⌜ r ≤ used + lineBytes ⌝ }
+{
+    let n = least(line.len, LINE_BYTES);
     for i in 0..n {
         out[used + i] = line.bytes[i];
     }
@@ -50,49 +58,55 @@ fn put(out: &mut [u8], used: usize, line: Line) -> usize {
 
 // The line of the run or stop that a list holds from a place on.
 fn answer_line(words: &[u64], at: usize) -> Line
-    requires { ⌜ at + 5 ≤ length (now words) ⌝ }
+    requires { ⌜ at + answerWords ≤ length (now words) ⌝ }
 {
+    let kind = words[at];
     let page = words[at + 1];
     let place = words[at + 2];
     let rights = words[at + 4];
-    if words[at] == 1 {
+    if kind == RUN {
         let writable = rights & 1 == 1;
         let user = rights & 2 == 2;
         let no_execute = rights & 4 == 4;
         return run_line(page, place, words[at + 3], writable, user, no_execute);
     }
-    stop_line(page, place, words[at] == 2)
+    stop_line(page, place, kind == RESERVED)
 }
 
 // The lines of a list, up to an end; behind its answers a list is zero, as an end is.
-fn put_answers(out: &mut [u8], words: &[u64]) -> usize {
+fn put_answers(out: &mut [u8], words: &[u64]) -> usize
+    requires { ⌜ length (now words) / answerWords * lineBytes ≤ length (now out) ⌝ }
+    ensures { λ r. ⌜ r ≤ length (now (words .entry)) / answerWords * lineBytes ⌝ }
+{
     let mut used = 0;
     let mut at = 0;
-    while WORDS <= words.len() - at {
-        if words[at] == 0 {
+    while ANSWER_WORDS <= words.len() - at {
+        if words[at] == END {
             break;
         }
         used = put(out, used, answer_line(words, at));
-        at += WORDS;
+        at += ANSWER_WORDS;
     }
     used
 }
 
-// The last line where the list is full: the search from the next page on decides.
+// The last line where the list is full: the search from the next page on decides. It is not refused, since the list was not.
 fn last_line(image: &[u64], base: PhysAddr, root: PhysAddr, next: Page) -> Line {
     let page = next.start_address;
     let found = search(image, base, root, page);
-    match found {
-        SearchAnswer::End => end_line(),
-        SearchAnswer::Stop(_, _, _) => more_line(page.0),
-        SearchAnswer::Run(_, _, _, _) => more_line(page.0),
-        SearchAnswer::Refused(n) => refused_line(n as u64),
+    if let SearchAnswer::End = found {
+        end_line()
+    } else {
+        more_line(page.0)
     }
 }
 
-// At most 4,096 lines of runs and stops, and the last line.
-fn put_list(out: &mut [u8], image: &[u64], base: PhysAddr, root: PhysAddr) -> usize {
-    let mut words = [0u64; 20480];
+// The lines of runs and stops, and the last line.
+fn put_list(out: &mut [u8], image: &[u64], base: PhysAddr, root: PhysAddr) -> usize
+    requires { ⌜ outputBytes ≤ length (now out) ⌝ }
+    ensures { λ r. ⌜ r ≤ outputBytes ⌝ }
+{
+    let mut words = [0u64; MOST_LINES * ANSWER_WORDS];
     let listed = list(image, base, root, VirtAddr(0), &mut words);
     match listed {
         ListAnswer::Over(_) => {
@@ -107,9 +121,12 @@ fn put_list(out: &mut [u8], image: &[u64], base: PhysAddr, root: PhysAddr) -> us
     }
 }
 
-fn put_runs(out: &mut [u8], bytes: &[u8], header: Header) -> usize {
-    let mut words = [0u64; 7680];
-    let n = read_words(bytes, &mut words);
+fn put_runs(out: &mut [u8], bytes: &[u8], header: Header) -> usize
+    requires { ⌜ outputBytes ≤ length (now out) ⌝ }
+    ensures { λ r. ⌜ r ≤ outputBytes ⌝ }
+{
+    let mut words = [0u64; MOST_WORDS];
+    let n = read_words(bytes, &mut words) as usize;
     put_list(
         out,
         &words[..n],
@@ -118,7 +135,10 @@ fn put_runs(out: &mut [u8], bytes: &[u8], header: Header) -> usize {
     )
 }
 
-fn put_file(out: &mut [u8], bytes: &[u8]) -> usize {
+fn put_file(out: &mut [u8], bytes: &[u8]) -> usize
+    requires { ⌜ outputBytes ≤ length (now out) ⌝ }
+    ensures { λ r. ⌜ r ≤ outputBytes ⌝ }
+{
     let header = read_header(bytes);
     match header {
         HeaderAnswer::Header(h) => put_runs(out, bytes, h),
@@ -126,16 +146,11 @@ fn put_file(out: &mut [u8], bytes: &[u8]) -> usize {
     }
 }
 
-fn write(out: &[u8], used: usize) {
-    let n = least(used, out.len());
-    io::write_all(STDOUT_FILENO, &out[..n]);
-}
-
 fn main() {
     let mut bytes = io::large_buffer();
     let n = io::read_full(STDIN_FILENO, &mut bytes);
-    // Room for 4,097 lines.
-    let mut out = [0u8; 262208];
+    // The last line stands behind the others.
+    let mut out = [0u8; (MOST_LINES + 1) * LINE_BYTES];
     let used = put_file(&mut out, &bytes[..n]);
-    write(&out, used);
+    io::write_all(STDOUT_FILENO, &out[..used]);
 }

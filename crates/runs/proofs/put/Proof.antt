@@ -3,23 +3,15 @@ use Prim.Native.Nat.{_+_, _-_, _≤_}
 use mathlib.Core.Path.{_≡_}
 use lib.ListN.{length}
 use borrow.Author.Needs.{needs}
+use Rattle.listing.specs.Text.{lineBytes}
 use Rattle.runs.proofs.put.Statement.{statement}
 use Rattle.runs.proofs.put.Tie as tie
 
 abbrev Inv-loop : tie.InvT-loop
-Inv-loop out₀ used line n i₀ out i = (i ≤ n) × (n ≤ 64) × (used + 64 ≤ length out) × (length out ≡ length out₀)
+Inv-loop out₀ used line n i₀ out i = (i ≤ n) × (n ≤ lineBytes) × (used + lineBytes ≤ length out) × (length out ≡ length out₀)
 
 abbrev μ-loop : tie.MeasureT-loop
 μ-loop out₀ used line n i₀ out i = n - i
-
-returns : tie.Need-returns Inv-loop μ-loop
-returns c = search needs
-
-sub-if2 : tie.Need-sub-if2 Inv-loop μ-loop
-sub-if2 c = search needs
-
-returns-2 : tie.Need-returns-2 Inv-loop μ-loop
-returns-2 c = search needs
 
 least-requires : tie.Need-least-requires Inv-loop μ-loop
 least-requires c κs = search needs
@@ -51,8 +43,8 @@ add-result c = search needs
 same-length : tie.Need-same-length Inv-loop μ-loop
 same-length c = search needs
 
-returns-3 : tie.Need-returns-3 Inv-loop μ-loop
-returns-3 c = search needs
+returns : tie.Need-returns Inv-loop μ-loop
+returns c = search needs
 
 pub put-spec : {M : Type 1} → statement M
 put-spec =
@@ -60,9 +52,6 @@ put-spec =
     (tie.spec
     Inv-loop
     μ-loop
-    returns
-    sub-if2
-    returns-2
     least-requires
     loop-holds
     element-copy-out-out
@@ -73,4 +62,4 @@ put-spec =
     loop-again
     add-result
     same-length
-    returns-3)
+    returns)

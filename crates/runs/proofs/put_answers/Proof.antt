@@ -1,13 +1,15 @@
--- `put_answers` is safe and ends.
-use Prim.Native.Nat.{_-_, _≤_}
+-- `put_answers` is safe and ends, and each line has room.
+use Prim.Native.Nat.{_-_, _*_, _/_, _%_, _≤_}
 use mathlib.Core.Path.{_≡_}
 use lib.ListN.{length}
 use borrow.Author.Needs.{needs}
+use Rattle.listing.specs.Text.{lineBytes}
+use Rattle.runs.specs.Sizes.{answerWords}
 use Rattle.runs.proofs.put_answers.Statement.{statement}
 use Rattle.runs.proofs.put_answers.Tie as tie
 
 abbrev Inv-loop : tie.InvT-loop
-Inv-loop out₀ words used₀ at₀ out used at = (at ≤ length words) × (length out ≡ length out₀)
+Inv-loop out₀ words used₀ at₀ out used at = (at % answerWords ≡ 0) × (at ≤ length words) × (used ≤ at / answerWords * lineBytes) × (length words / answerWords * lineBytes ≤ length out) × (length out ≡ length out₀)
 
 abbrev μ-loop : tie.MeasureT-loop
 μ-loop out₀ words used₀ at₀ out used at = length words - at

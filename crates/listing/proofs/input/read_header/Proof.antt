@@ -5,18 +5,18 @@ use borrow.Author.Needs.{needs}
 use borrow.Author.Tests.{le-leb, lt-leb, eq-eqb, ne-eqb}
 use lib.Dec.{leb, eqb}
 use lib.ListN.{length}
-use Rattle.listing.specs.Input.{headerOf, version, count}
+use Rattle.listing.specs.Input.{headerBytes, mostWords, headerOf, version, count}
 use Rattle.listing.proofs.input.read_header.Statement.{statement}
 use Rattle.listing.proofs.input.read_header.Tie as tie
 
 -- what each test that was passed says of the file
-long : (c : tie.Else1) → leb 21 (length (c .before .before .args .bytes .now)) ≡ true
+long : (c : tie.Else1) → leb headerBytes (length (c .before .before .args .bytes .now)) ≡ true
 long c = le-leb _ _ (c .if1 .left)
 
 first-version : (c : tie.Else2) → eqb (version (c .before .before .before .before .args .bytes .now)) 1 ≡ true
 first-version c = eq-eqb _ _ (rw (c .before .field-at .ensures) at (c .if2 .left))
 
-few-words : (c : tie.Else3) → leb (count (c .before .before .before .before .before .before .args .bytes .now)) 7680 ≡ true
+few-words : (c : tie.Else3) → leb (count (c .before .before .before .before .before .before .args .bytes .now)) mostWords ≡ true
 few-words c = le-leb _ _ (rw (c .before .field-at2 .ensures) at (c .if3 .left))
 
 returns : tie.Need-returns

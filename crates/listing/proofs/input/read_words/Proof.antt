@@ -5,13 +5,13 @@ use mathlib.Core.List.{_++_}
 use native.Mathlib.Omega.{arith}
 use borrow.Author.Needs.{needs}
 use lib.ListN.{length, drop, length-set}
-use Rattle.listing.specs.Input.{wordsFrom}
+use Rattle.listing.specs.Input.{headerBytes, wordBytes, wordsFrom}
 use Rattle.listing.proofs.Words.{stored}
 use Rattle.listing.proofs.input.read_words.Statement.{statement}
 use Rattle.listing.proofs.input.read_words.Tie as tie
 
 abbrev Inv-loop : tie.InvT-loop
-Inv-loop bytes out₀ n₀ at₀ out n place = (n ≤ (length bytes - 21) / 8) × (n ≤ length out₀) × (place ≡ 21 + 8 * n) × (length out ≡ length out₀) × (out ≡ wordsFrom bytes 21 n ++ drop n out₀)
+Inv-loop bytes out₀ n₀ at₀ out n place = (n ≤ (length bytes - headerBytes) / wordBytes) × (n ≤ length out₀) × (place ≡ headerBytes + wordBytes * n) × (length out ≡ length out₀) × (out ≡ wordsFrom bytes headerBytes n ++ drop n out₀)
 
 abbrev μ-loop : tie.MeasureT-loop
 μ-loop bytes out₀ n₀ at₀ out n place = length out₀ - n
@@ -60,13 +60,13 @@ loop-again c =
     let bytes = start .bytes .now in
     let out = start .out .now in
     let n = c .before .before .before .before .loop .n in
-    let place : c .before .before .before .before .loop .at ≡ 21 + 8 * n = held .2 in
+    let place : c .before .before .before .before .loop .at ≡ headerBytes + wordBytes * n = held .2 in
     let room : n < length out = omega arith in (
       omega arith,
       omega arith,
       omega arith,
       simp length-set (held .3),
-      rw (c .field-at .ensures, place, held .4) (stored bytes out 21 n room),
+      rw (c .field-at .ensures, place, held .4) (stored bytes out headerBytes n room),
     )
 
 same-length-3 : tie.Need-same-length-3 Inv-loop μ-loop

@@ -2,7 +2,7 @@
 use native.Mathlib.Omega.{arith}
 use borrow.Author.Needs.{needs}
 use Rattle.listing.specs.Text.{endLine}
-use Rattle.listing.proofs.Growing.{reads}
+use Rattle.listing.proofs.Growing.{holds}
 use Rattle.listing.proofs.line.end_line.Statement.{statement}
 use Rattle.listing.proofs.line.end_line.Tie as tie
 
@@ -17,7 +17,7 @@ with-requires c κs = search needs
 
 returns : tie.Need-returns
 unfolding endLine
-returns c = reads (c .before .before .new .ensures .0) (omega arith) (c .with .ensures)
+returns c = holds (c .before .before .new .ensures .0) (omega arith) (c .with .ensures)
 
 pub end-line-spec : {M : Type 1} → statement M
 end-line-spec = tie.close (tie.spec new-requires slice-aggregate-with with-requires returns)

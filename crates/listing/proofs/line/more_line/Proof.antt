@@ -2,7 +2,7 @@
 use native.Mathlib.Omega.{arith}
 use borrow.Author.Needs.{needs}
 use Rattle.listing.specs.Text.{moreLine}
-use Rattle.listing.proofs.Growing.{behind, reads}
+use Rattle.listing.proofs.Growing.{behind, holds}
 use Rattle.listing.proofs.line.more_line.Statement.{statement}
 use Rattle.listing.proofs.line.more_line.Tie as tie
 
@@ -23,7 +23,7 @@ with-byte-requires c κs = search needs
 
 returns : tie.Need-returns
 unfolding moreLine
-returns c = reads (c .before .before .before .before .new .ensures .0) (omega arith) (behind (c .before .before .with .ensures) (behind (c .before .with-hex .ensures) (c .with-byte .ensures)))
+returns c = holds (c .before .before .before .before .new .ensures .0) (omega arith) (behind (c .before .before .with .ensures) (behind (c .before .with-hex .ensures) (c .with-byte .ensures)))
 
 pub more-line-spec : {M : Type 1} → statement M
 more-line-spec =

@@ -2,7 +2,7 @@
 use native.Mathlib.Omega.{arith}
 use borrow.Author.Needs.{needs}
 use Rattle.listing.specs.Text.{stopLine}
-use Rattle.listing.proofs.Growing.{behind, reads}
+use Rattle.listing.proofs.Growing.{behind, holds}
 use Rattle.listing.proofs.line.stop_line.Statement.{statement}
 use Rattle.listing.proofs.line.stop_line.Tie as tie
 
@@ -34,7 +34,7 @@ returns : tie.Need-returns
 unfolding stopLine
 returns c =
     rw (c .before .before .if1 .taken)
-    (reads (c .before .before .before .before .before .before .before .before .new .ensures .0) (omega arith)
+    (holds (c .before .before .before .before .before .before .before .before .new .ensures .0) (omega arith)
     (behind (c .before .before .before .before .before .before .with .ensures) (behind (c .before .before .before .before .before .with-hex .ensures) (behind (c .before .before .before .before .with-byte .ensures) (behind (c .before .before .before .with-decimal .ensures) (c .with2 .ensures))))))
 
 slice-aggregate-with-3 : tie.Need-slice-aggregate-with-3
@@ -47,7 +47,7 @@ returns-2 : tie.Need-returns-2
 unfolding stopLine
 returns-2 c =
     rw (c .before .before .if1 .left)
-    (reads (c .before .before .before .before .before .before .before .before .new .ensures .0) (omega arith)
+    (holds (c .before .before .before .before .before .before .before .before .new .ensures .0) (omega arith)
     (behind (c .before .before .before .before .before .before .with .ensures) (behind (c .before .before .before .before .before .with-hex .ensures) (behind (c .before .before .before .before .with-byte .ensures) (behind (c .before .before .before .with-decimal .ensures) (c .with3 .ensures))))))
 
 pub stop-line-spec : {M : Type 1} → statement M

@@ -17,7 +17,7 @@ abbrev μ-loop : tie.MeasureT-loop
 μ-loop text line₀ i₀ line i = length text - i
 
 loop-holds : tie.Need-loop-holds Inv-loop μ-loop
-loop-holds c = (omega arith, nothing (c .before .args .self) (c .before .pre .whole))
+loop-holds c = (omega arith, nothing (c .before .args .self) (c .before .pre .whole) (c .before .pre .zeros))
 
 shared-slice-read-with-byte : tie.Need-shared-slice-read-with-byte Inv-loop μ-loop
 shared-slice-read-with-byte c = search needs
