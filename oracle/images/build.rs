@@ -1,5 +1,5 @@
 //! With the feature `library`, links the port as the crate `compare` does: libwuohtan.a from the
-//! folder that WUOHTAN_LIB names, by default the repository's target/staticlib.
+//! folder that WUOHTAN_LIB names, by default the repository's target/lib.
 
 use std::env;
 use std::path::PathBuf;
@@ -10,14 +10,14 @@ fn main() {
         return;
     }
     let own = PathBuf::from(env::var_os("CARGO_MANIFEST_DIR").expect("set by cargo"));
-    let folder = env::var_os("WUOHTAN_LIB").unwrap_or_else(|| "../../target/staticlib".into());
+    let folder = env::var_os("WUOHTAN_LIB").unwrap_or_else(|| "../../target/lib".into());
     let folder = own.join(folder);
     let library = folder.join("libwuohtan.a");
 
     println!("cargo::rerun-if-changed={}", library.display());
     if !library.is_file() {
         let place = library.display();
-        println!("cargo::error=there is no {place}: make it with `rt staticlib wuohtan`");
+        println!("cargo::error=there is no {place}: make it with `./lib`");
         return;
     }
     println!("cargo::rustc-link-search=native={}", folder.display());
