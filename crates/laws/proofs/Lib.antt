@@ -9,5 +9,7 @@ pub mod Run
 pub mod Draw
 pub mod Gap
 pub mod Left
+pub mod After
 pub mod PagesLeft
 pub mod Drawing
+pub mod OneByOne

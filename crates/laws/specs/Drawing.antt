@@ -3,7 +3,7 @@ use Prim.Native.Nat.{ℕ, _≤_}
 use mathlib.Core.Path.{_≡_}
 use mathlib.Core.List.{List, [], _∷_, _++_, reverse}
 use mathlib.Core.Option.{Option, none, some, Option·map}
-use lib.ListN.{length}
+use lib.ListN.{length, replicate}
 
 pub data Side : Type 0 where
   front : Side
@@ -38,3 +38,14 @@ drawing draw (side ∷ sides) r = elim (draw side r) [ none ↦ none | some d �
 pub record EachOnce {S : Type 0} (items : S → List ℕ) (draw : Side → S → Option (Drawn S)) : Type 0 where
   pub in-order : (sides : List Side) (r : S) (d : Drawing S) → drawing draw sides r ≡ some d → d .fronts ++ (items (d .left) ++ reverse (d .backs)) ≡ items r
   pub to-the-end : (sides : List Side) (r : S) (d : Drawing S) → drawing draw sides r ≡ some d → length (items r) ≤ length sides → items (d .left) ≡ []
+
+-- draws with any n, by those with n = 0. `Given` are the ranges that no call refuses, `Empty` the empty ones, `len` is the range's `len`
+pub record OneByOne {S : Type 0} (Given Empty : S → Type 0) (len : S → ℕ) (nth : Side → ℕ → S → Option (Drawn S)) : Type 0 where
+  -- "A draw on an empty range is `None`, range unchanged": it is not refused
+  pub on-empty : (side : Side) (n : ℕ) (r : S) → Given r → Empty r → nth side n r ≡ some (record { item = none; left = r })
+  -- "`next` and `next_back` are n = 0": the one after n of them gives and leaves what the draw with n does, where none of them is refused
+  pub as-next : (side : Side) (n : ℕ) (r : S) (c : Drawing S) (d : Drawn S)
+      → drawing (λ t. nth t 0) (replicate n side) r ≡ some c → nth side 0 (c .left) ≡ some d → nth side n r ≡ some d
+  -- "If n ≥ `len` and no refusal applies, it is `None` and the range is left as after drawing all"
+  pub past-all : (side : Side) (n : ℕ) (r : S) (c : Drawing S) (d : Drawn S)
+      → len r ≤ n → drawing (λ t. nth t 0) (replicate (len r) side) r ≡ some c → nth side n r ≡ some d → d ≡ record { item = none; left = c .left }
