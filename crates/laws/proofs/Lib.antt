@@ -13,3 +13,4 @@ pub mod After
 pub mod PagesLeft
 pub mod Drawing
 pub mod OneByOne
+pub mod Kind
