@@ -6,10 +6,10 @@ use native.Mathlib.Omega.{arith}
 use lib.ListN.{drop}
 use Rattle.laws.proofs.Left.{front-below-left, back-below-left, front-through-left, back-through-left}
 use Rattle.frame.specs.Frame.{start, bytes}
-use Rattle.frame.specs.Range.{topFrame, nthOf, nthBackOf, nthInclusiveOf, nthBackInclusiveOf, framesOf, framesInclusiveOf}
+use Rattle.frame.specs.Range.{topFrame, refusal, nthOf, nthBackOf, nthInclusiveOf, nthBackInclusiveOf, framesOf, framesInclusiveOf}
 use Rattle.frame.specs.declared.range.PhysFrameRange.{PhysFrameRange}
 use Rattle.frame.specs.declared.range_inclusive.PhysFrameRangeInclusive.{PhysFrameRangeInclusive}
-use Rattle.frame.proofs.Ranges.{refusal, accepted, nth-settled, nth-back-settled, nth-inclusive-settled, nth-back-inclusive-settled}
+use Rattle.frame.proofs.Ranges.{accepted, nth-settled, nth-back-settled, nth-inclusive-settled, nth-back-inclusive-settled}
 
 module _ (r : PhysFrameRange) (n : ℕ) (e : refusal (r .start) (r .end) ≡ 0) where
   pub nth-left : framesOf (nthOf r n .range) ≡ drop (n + 1) (framesOf r)

@@ -3,7 +3,8 @@ use mathlib.Core.Path.{sym, ap, _∙_}
 use native.Mathlib.Omega.{arith}
 use borrow.Author.Needs.{needs}
 use Rattle.laws.specs.Draw as draw
-use Rattle.frame.proofs.Ranges.{settledInclusive, nth-inclusive-refused, nth-inclusive-settled, accepted}
+use Rattle.frame.specs.Range.{drawnThrough}
+use Rattle.frame.proofs.Ranges.{settled, nth-inclusive-refused, nth-inclusive-settled, accepted}
 use Rattle.frame.proofs.range_inclusive.draw_nth_inclusive.Statement.{statement}
 use Rattle.frame.proofs.range_inclusive.draw_nth_inclusive.Tie as tie
 
@@ -42,7 +43,7 @@ returns-2 c =
       c .before .before .frame-answer .ensures,
       c .before .frame-at .ensures,
       c .frame-at2 .ensures,
-    ) (ap (λ (d : draw.Draw). settledInclusive r d) ((rw (c .before .before .before .before .bytes .ensures) at (c .before .before .before .front-through .ensures))) ∙ nth-inclusive-settled r (c .before .before .before .before .before .before .before .before .before .args .n) (sym (c .before .before .before .before .before .before .frames-refusal .ensures) ∙ c .before .before .before .before .before .if1 .left))
+    ) (ap (λ (d : draw.Draw). settled drawnThrough (r .start) (r .end) d) ((rw (c .before .before .before .before .bytes .ensures) at (c .before .before .before .front-through .ensures))) ∙ nth-inclusive-settled r (c .before .before .before .before .before .before .before .before .before .args .n) (sym (c .before .before .before .before .before .before .frames-refusal .ensures) ∙ c .before .before .before .before .before .if1 .left))
 
 pub draw-nth-inclusive-spec : {M : Type 1} → statement M
 draw-nth-inclusive-spec =
