@@ -12,20 +12,11 @@ use lib.Dec.{ltb}
 use lib.ListN.{getElem?}
 use Rattle.laws.specs.Run.{lenBelow, lenThrough, below}
 use Rattle.laws.specs.Draw.{taken, frontBelow, backBelow, frontThrough, backThrough, underBackBelow, underFrontThrough}
-use Rattle.laws.proofs.Cases.{by-cases}
+use Rattle.laws.proofs.Cases.{by-cases, and-false}
 use Rattle.laws.proofs.Run.{back-at, steps-fit, fits-below, back-within, after-last}
 
-and-false : (t : Bool) → (t && false) ≡ false
-and-false true = refl
-and-false false = refl
-
-module _ (l : List ℕ) (a b s n : ℕ) where
-  pub front-below-start : frontBelow l a b s n .start ≤ max a b
-  front-below-start = omega (arith, fits-below a b s, mul-le-mul-right {m = min (n + 1) (lenBelow a b s)} {n = lenBelow a b s} s (min-le-right (n + 1) (lenBelow a b s)))
-
-  pub back-below-end : backBelow l a b s n .end ≤ b
-  back-below-end = omega arith
-
+-- no end goes below 0
+module _ (a b s n : ℕ) where
   -- what is taken is no more than the range has
   back-below-whole : taken (lenBelow a b s) n * s ≤ b
   back-below-whole = omega (arith, fits-below a b s, mul-le-mul-right {m = min (n + 1) (lenBelow a b s)} {n = lenBelow a b s} s (min-le-right (n + 1) (lenBelow a b s)))
@@ -35,6 +26,13 @@ module _ (l : List ℕ) (a b s n : ℕ) where
 
   pub front-through-under : (top : ℕ) → s ≤ top → underFrontThrough top a b s n ≡ false
   front-through-under top h = rw (le-ltb top s h) (and-false (ltb top (a + taken (lenThrough a b s) n * s)))
+
+module _ (l : List ℕ) (a b s n : ℕ) where
+  pub front-below-start : frontBelow l a b s n .start ≤ max a b
+  front-below-start = omega (arith, fits-below a b s, mul-le-mul-right {m = min (n + 1) (lenBelow a b s)} {n = lenBelow a b s} s (min-le-right (n + 1) (lenBelow a b s)))
+
+  pub back-below-end : backBelow l a b s n .end ≤ b
+  back-below-end = omega arith
 
   module _ (top : ℕ) (ha : a ≤ top) (hb : b ≤ top) (hs : s ≤ top) where
     pub front-through-start : frontThrough l top a b s n .start ≤ top

@@ -11,6 +11,7 @@ pub mod Gap
 pub mod Left
 pub mod After
 pub mod PagesLeft
+pub mod Kept
 pub mod Drawing
 pub mod OneByOne
 pub mod Kind
