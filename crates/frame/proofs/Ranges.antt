@@ -30,6 +30,7 @@ pub record Accepted (x y : PhysFrame) : Type 0 where
   pub first : start x + bytes x ≤ 2 ^ 52
   pub last : start y + bytes x ≤ 2 ^ 52
   pub whole : start x % bytes x ≡ 0
+  pub last-whole : start y % bytes x ≡ 0
   pub some : 0 < bytes x
   pub small : bytes x ≤ 2 ^ 30
 
@@ -45,6 +46,7 @@ accepted x y r =
       first = under-top (powerOf (x .size)) 52 (start x) (omega arith) (ltb-true (start x) (2 ^ 52) (p .0)) (p .1);
       last = rw (i .2) (under-top (powerOf (y .size)) 52 (start y) (omega arith) (ltb-true (start y) (2 ^ 52) (q .0)) (q .1));
       whole = p .1;
+      last-whole = rw (i .2) (q .1);
       some = pow-pos (powerOf (x .size));
       small = pow-mono {i = powerOf (x .size)} {j = 30} (omega arith);
     }
@@ -53,18 +55,27 @@ accepted x y r =
 abbrev pub settled : {D : Type 0} → (FrameAnswer → PhysFrame → PhysFrame → D) → PhysFrame → PhysFrame → draw.Draw → D
 settled made x y d = made (frameAnswer (x .size) (d .item)) (frameAt (x .size) (d .start)) (frameAt (y .size) (d .end))
 
+-- a draw whose ends are in the memory is not refused 11
+pub record Inside (under : Bool) (d : draw.Draw) : Type 0 where
+  pub start : d .start < 2 ^ 52
+  pub end : d .end < 2 ^ 52
+  pub not-under : under ≡ false
+
+inside : (under : Bool) (d : draw.Draw) → Inside under d → leavesMemory under d ≡ 0
+inside under d i = simp (i .not-under, lt-leb (2 ^ 52) (d .start) (i .start), lt-leb (2 ^ 52) (d .end) (i .end))
+
+-- the number that refuses the draw
+pub no-number : (x y : PhysFrame) (under : Bool) (d : draw.Draw) → refusal x y ≡ 0 → Inside under d → firstRefusal (refusal x y) (leavesMemory under d) ≡ 0
+no-number x y under d e i = simp (e, inside under d i)
+
 module _ {D : Type 0} (made : FrameAnswer → PhysFrame → PhysFrame → D) (x y : PhysFrame) (under : Bool) (d : draw.Draw) where
   refused : (refusal x y ≡ 0 → ⊥) → made (frame.Refused (refusal x y)) x y ≡ framesDrawn made x y under d
   refused n = rw (first-refused (refusal x y) (leavesMemory under d) n) (drawn-refused frames made x y d (refusal x y) n)
 
-  not-refused : refusal x y ≡ 0 → leavesMemory under d ≡ 0 → settled made x y d ≡ framesDrawn made x y under d
-  not-refused e h = drawn-settled frames made x y d (firstRefusal (refusal x y) (leavesMemory under d)) (simp (e, h))
+  not-refused : refusal x y ≡ 0 → Inside under d → settled made x y d ≡ framesDrawn made x y under d
+  not-refused e i = drawn-settled frames made x y d (firstRefusal (refusal x y) (leavesMemory under d)) (no-number x y under d e i)
 
--- a draw whose ends are in the memory is not refused 11
-inside : (under : Bool) (d : draw.Draw) → under ≡ false → d .start < 2 ^ 52 → d .end < 2 ^ 52 → leavesMemory under d ≡ 0
-inside under d u h k = simp (u, lt-leb (2 ^ 52) (d .start) h, lt-leb (2 ^ 52) (d .end) k)
-
--- the draws on the numbers of a range from `x` to `y`. No draw of an accepted range would leave the memory, on either side.
+-- the draws on the numbers of a range from `x` to `y`
 module _ (x y : PhysFrame) (n : ℕ) where
   abbrev pub front : draw.Draw
   front = draw.frontBelow (below (start x) (start y) (bytes x)) (start x) (start y) (bytes x) n
@@ -78,38 +89,39 @@ module _ (x y : PhysFrame) (n : ℕ) where
   abbrev pub backInclusive : draw.Draw
   backInclusive = draw.backThrough (through (start x) (start y) (bytes x)) (start x) (start y) (bytes x) n
 
-  abbrev underBack : Bool
+  abbrev pub underBack : Bool
   underBack = draw.underBackBelow (start x) (start y) (bytes x) n
 
-  abbrev underFront : Bool
+  abbrev pub underFront : Bool
   underFront = draw.underFrontThrough (topFrame (bytes x)) (start x) (start y) (bytes x) n
 
+  -- no draw of an accepted range would leave the memory, on either side
   module _ (e : refusal x y ≡ 0) where
-    pub front-inside : leavesMemory false front ≡ 0
+    pub front-inside : Inside false front
     front-inside =
         let k = accepted x y e in
         let s = front-below-start (below (start x) (start y) (bytes x)) (start x) (start y) (bytes x) n in
-        inside false front refl (omega arith) (omega arith)
+        record { start = omega arith; end = omega arith; not-under = refl }
 
-    pub back-inside : leavesMemory underBack back ≡ 0
-    back-inside = let k = accepted x y e in inside underBack back (back-below-under (start x) (start y) (bytes x) n) (omega arith) (omega arith)
+    pub back-inside : Inside underBack back
+    back-inside = let k = accepted x y e in record { start = omega arith; end = omega arith; not-under = back-below-under (start x) (start y) (bytes x) n }
 
-    pub front-inclusive-inside : leavesMemory underFront frontInclusive ≡ 0
+    pub front-inclusive-inside : Inside underFront frontInclusive
     front-inclusive-inside =
         let k = accepted x y e in
         let l = through (start x) (start y) (bytes x) in
         let s = front-through-start l (start x) (start y) (bytes x) n (topFrame (bytes x)) (omega arith) (omega arith) (omega arith) in
         let t = front-through-end l (start x) (start y) (bytes x) n (topFrame (bytes x)) (omega arith) (omega arith) (omega arith) in
-        inside underFront frontInclusive (front-through-under (start x) (start y) (bytes x) n (topFrame (bytes x)) (omega arith)) (omega arith) (omega arith)
+        record { start = omega arith; end = omega arith; not-under = front-through-under (start x) (start y) (bytes x) n (topFrame (bytes x)) (omega arith) }
 
-    pub back-inclusive-inside : leavesMemory false backInclusive ≡ 0
+    pub back-inclusive-inside : Inside false backInclusive
     back-inclusive-inside =
         let k = accepted x y e in
         let l = through (start x) (start y) (bytes x) in
         let z : start x < bytes x → start x ≡ 0 = λ h. omega (arith, mod-eq-of-lt h) in
         let s = back-through-start l (start x) (start y) (bytes x) n (topFrame (bytes x)) (omega arith) (omega arith) (omega arith) z in
         let t = back-through-end l (start x) (start y) (bytes x) n (topFrame (bytes x)) (omega arith) (omega arith) (omega arith) in
-        inside false backInclusive refl (omega arith) (omega arith)
+        record { start = omega arith; end = omega arith; not-under = refl }
 
 -- each draw, on a refused and on an accepted range
 module _ (r : PhysFrameRange) (n : ℕ) where

@@ -15,3 +15,4 @@ pub mod Kept
 pub mod Drawing
 pub mod OneByOne
 pub mod Kind
+pub mod Ranges

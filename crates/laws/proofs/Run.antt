@@ -145,6 +145,10 @@ through-back a b s j p h =
     let e : b - j * s + s ≡ b + s - j * s = omega arith in
     rw (through-is a (b - j * s) s p, through-is a b s p, e) (below-back a (b + s) s j p)
 
+pub below-none : (a b s : ℕ) → b ≤ a → lenBelow a b s ≡ 0
+unfolding lenBelow
+below-none a b s h = rw (sub-eq-zero-of-le h, zero-div)
+
 pub through-none : (a b s : ℕ) → b < a → lenThrough a b s ≡ 0
 unfolding lenThrough
 through-none a b s h = rw (lt-ltb b a h)
