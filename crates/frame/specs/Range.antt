@@ -1,13 +1,14 @@
 -- What the calls on ranges of frames answer. A draw answers the frame, none or the refusal's number, and the range left; on a refusal that is the range taken.
 -- The sentences are those of document 01, "Ranges".
-use Prim.Native.Nat.{ℕ, _-_, _^_}
+use Prim.Native.Nat.{ℕ, _-_, _^_, _≤_, _<_}
+use mathlib.Core.Path.{_≡_}
 use mathlib.Core.Bool.{Bool, false, cond, _||_}
 use mathlib.Core.List.{List}
 use mathlib.Core.Option.{Option, none, some}
 use lib.Dec.{leb}
 use Rattle.answer.specs.Outcome.{Outcome, gives, refuses}
 use Rattle.answer.specs.Refusal.{drawLeavesMemory}
-use Rattle.laws.specs.Run.{below, through}
+use Rattle.laws.specs.Run.{below, through, lenBelow, lenThrough}
 use Rattle.laws.specs.Draw as draw
 use Rattle.laws.specs.Drawing.{Side, front, back, Drawn}
 use Rattle.laws.specs.Kind.{Kind, drawn, drawnOf}
@@ -45,10 +46,10 @@ frameAnswer z none = frame.None
 frameAnswer z (some a) = frame.Frame (frameAt z a)
 
 -- where the frame that an answer gives starts; none where it is a refusal
-abbrev pub given : FrameAnswer → Option (Option ℕ)
-given (frame.Refused k) = none
-given frame.None = some none
-given (frame.Frame f) = some (some (start f))
+abbrev pub itemOf : FrameAnswer → Option (Option ℕ)
+itemOf (frame.Refused k) = none
+itemOf frame.None = some none
+itemOf (frame.Frame f) = some (some (start f))
 
 -- the topmost frame of a size
 abbrev pub topFrame : ℕ → ℕ
@@ -64,7 +65,7 @@ leavesMemory under d = cond (under || (leb (2 ^ 52) (d .start) || leb (2 ^ 52) (
 
 -- frames, as draws take them
 abbrev pub frames : Kind PhysFrame FrameAnswer
-frames = record { placed = λ x. frameAt (x .size); answered = λ x. frameAnswer (x .size); refused = frame.Refused; item = given }
+frames = record { placed = λ x. frameAt (x .size); answered = λ x. frameAnswer (x .size); refused = frame.Refused; item = itemOf }
 
 -- a draw of an exclusive range and of an inclusive one: the answer and the range left
 abbrev pub drawnBelow : FrameAnswer → PhysFrame → PhysFrame → FrameDraw
@@ -111,6 +112,25 @@ framesOf r = below (start (r .start)) (start (r .end)) (bytes (r .start))
 
 abbrev pub framesInclusiveOf : PhysFrameRangeInclusive → List ℕ
 framesInclusiveOf r = through (start (r .start)) (start (r .end)) (bytes (r .start))
+
+-- the ranges that no call refuses; "An exclusive range is empty if start ≥ end, an inclusive one if start > end"; `len`
+abbrev pub given : PhysFrameRange → Type 0
+given r = refusal (r .start) (r .end) ≡ 0
+
+abbrev pub givenInclusive : PhysFrameRangeInclusive → Type 0
+givenInclusive r = refusal (r .start) (r .end) ≡ 0
+
+abbrev pub empty : PhysFrameRange → Type 0
+empty r = start (r .end) ≤ start (r .start)
+
+abbrev pub emptyInclusive : PhysFrameRangeInclusive → Type 0
+emptyInclusive r = start (r .end) < start (r .start)
+
+abbrev pub len : PhysFrameRange → ℕ
+len r = lenBelow (start (r .start)) (start (r .end)) (bytes (r .start))
+
+abbrev pub lenInclusive : PhysFrameRangeInclusive → ℕ
+lenInclusive r = lenThrough (start (r .start)) (start (r .end)) (bytes (r .start))
 
 -- a draw as what it gives and leaves; "`next` and `next_back` are n = 0"
 abbrev pub nthFrom : Side → ℕ → PhysFrameRange → Option (Drawn PhysFrameRange)

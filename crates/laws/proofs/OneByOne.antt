@@ -43,9 +43,10 @@ module _ {S : Type 0} (next : S → Option (Drawn S)) where
 nothing : {A C : Type 0} {x : A} → _≡_ {A = Option A} none (some x) → C
 nothing e = absurd (let z : _≡_ {A = ℕ} 0 1 = cc in omega arith)
 
-module _ {S : Type 0} (Given Empty : S → Type 0) (len : S → ℕ) (Free : ℕ → S → Type 0) (out : ℕ → S → Drawn S) (nth : ℕ → S → Option (Drawn S))
+module _ {S : Type 0} {Given Empty : S → Type 0} {len : S → ℕ} {Free : ℕ → S → Type 0} {out : ℕ → S → Drawn S} {nth : ℕ → S → Option (Drawn S)}
     (p : Settled Given Empty len Free out nth) where
-  settled : (n : ℕ) (r : S) (d : Drawn S) → nth n r ≡ some d → d ≡ out n r
+  -- a draw that is not refused
+  pub settled : (n : ℕ) (r : S) (d : Drawn S) → nth n r ≡ some d → d ≡ out n r
   settled n r d h = same-some (sym h ∙ p .gives n r (p .free n r d h))
 
   -- a draw one place further, by the draw with n = 0 and the one after it
@@ -69,7 +70,7 @@ module _ {S : Type 0} (Given Empty : S → Type 0) (len : S → ℕ) (Free : ℕ
       go none e (some x) f = nothing (sym e ∙ p .gives 0 r (p .before n r (p .free (suc n) r x f) .0))
       go (some d) e x f = second d e x f (nth n (d .left)) refl
 
-  pub as-next : (n : ℕ) (r : S) → nth n r ≡ bind (leftAfter (nth 0) n r) (nth 0)
+  as-next : (n : ℕ) (r : S) → nth n r ≡ bind (leftAfter (nth 0) n r) (nth 0)
   unfolding leftAfter bind
   as-next zero r = refl
   as-next (suc n) r = step n r ∙ go (λ l. as-next n l) (nth 0 r)
@@ -79,7 +80,7 @@ module _ {S : Type 0} (Given Empty : S → Type 0) (len : S → ℕ) (Free : ℕ
       go h none = refl
       go h (some d) = h (d .left)
 
-  pub on-empty : (n : ℕ) (r : S) → Given r → Empty r → nth n r ≡ some (record { item = none; left = r })
+  on-empty : (n : ℕ) (r : S) → Given r → Empty r → nth n r ≡ some (record { item = none; left = r })
   on-empty n r g e = p .gives n r (p .empty-free n r g e) ∙ ap some (p .empty n r g (p .empty-len r e))
 
   -- a draw of fewer items is not refused either
@@ -91,7 +92,7 @@ module _ {S : Type 0} (Given Empty : S → Type 0) (len : S → ℕ) (Free : ℕ
   fewer zero m r f = rw zero-add at f
   fewer (suc k) m r f = fewer k m r (one-fewer (k + m) r (rw suc-add at f))
 
-  pub past-all : (n : ℕ) (r : S) (d : Drawn S) → len r ≤ n → nth n r ≡ some d → (d .item ≡ none) × (leftAfter (nth 0) (len r) r ≡ some (d .left))
+  past-all : (n : ℕ) (r : S) (d : Drawn S) → len r ≤ n → nth n r ≡ some d → (d .item ≡ none) × (leftAfter (nth 0) (len r) r ≡ some (d .left))
   unfolding leftAfter lefts
   past-all n r d l h = go (len r) refl
     where
@@ -110,11 +111,6 @@ module _ {S : Type 0} (Given Empty : S → Type 0) (len : S → ℕ) (Free : ℕ
           (ap (λ t. t .item) q, last-left (nth 0) m r ∙ ap lefts (sym (as-next m r) ∙ g) ∙ ap some (sym (ap (λ t. t .left) q)))
 
 -- the same for both sides
-pub one-by-one : {S : Type 0} (Given Empty : S → Type 0) (len : S → ℕ) (Free : Side → ℕ → S → Type 0) (out : Side → ℕ → S → Drawn S) (nth : Side → ℕ → S → Option (Drawn S))
+pub one-by-one : {S : Type 0} {Given Empty : S → Type 0} {len : S → ℕ} {Free : Side → ℕ → S → Type 0} {out : Side → ℕ → S → Drawn S} {nth : Side → ℕ → S → Option (Drawn S)}
     → ((side : Side) → Settled Given Empty len (Free side) (out side) (nth side)) → OneByOne Given Empty len nth
-one-by-one Given Empty len Free out nth p =
-    record {
-      on-empty = λ side. on-empty Given Empty len (Free side) (out side) (nth side) (p side);
-      as-next = λ side. as-next Given Empty len (Free side) (out side) (nth side) (p side);
-      past-all = λ side. past-all Given Empty len (Free side) (out side) (nth side) (p side);
-    }
+one-by-one p = record { on-empty = λ side. on-empty (p side); as-next = λ side. as-next (p side); past-all = λ side. past-all (p side) }
