@@ -1,82 +1,123 @@
--- Whoever draws pages to the end gets each of them once, in order, from either end or both, where no draw is refused.
-use Prim.Native.Nat.{ℕ}
+-- Pages drawn one by one, at either width: each of them once and in order, from either end or both, where no draw is refused; and a draw with n as n + 1 draws with n = 0.
+use Prim.Native.Nat.{ℕ, zero, suc, _+_, _-_, _%_, _^_, _≤_, _<_}
 use mathlib.Core.Path.{_≡_, refl, sym, ap, _∙_}
-use mathlib.Core.Bool.{Bool, true, false}
-use mathlib.Core.List.{reverse}
+use mathlib.Core.Bool.{Bool, true, false, cond}
+use mathlib.Core.List.{List, reverse}
 use mathlib.Core.Option.{Option, none, some}
 use native.Mathlib.Omega.{arith}
-use native.Mathlib.Decide.{ℕ-discrete}
+use borrow.Author.Tests.{eq-eqb}
 use lib.ListN.{getElem?, drop}
-use Rattle.laws.specs.Draw.{gapFrontBelow, gapFrontThrough, gapBackBelow, gapBackThrough}
-use Rattle.laws.specs.Drawing.{Side, front, back, Drawn, EachOnce}
-use Rattle.laws.proofs.Cases.{by-cases}
+use lib.Pow.{pow-mono}
+use Rattle.answer.specs.Refusal.{drawMeetsGap}
+use Rattle.laws.specs.Width.{half, firstHigh, canonical}
+use Rattle.laws.specs.Run.{lenBelow, lenThrough, below, through, pagesBelow, pagesThrough}
+use Rattle.laws.specs.Draw as draw
+use Rattle.laws.specs.Drawing.{Side, front, back, Drawn, EachOnce, OneByOne}
+use Rattle.laws.proofs.Width.{sizes, canonical-halves}
+use Rattle.laws.proofs.Align.{top-whole}
+use Rattle.laws.proofs.Run.{below-none, through-none}
+use Rattle.laws.proofs.Draw.{front-below-start, back-below-end, front-through-start, front-through-end, back-through-start, back-through-end}
+use Rattle.laws.proofs.Gap.{PageEnds, front-below, back-below, front-through, back-through}
+use Rattle.laws.proofs.After.{Stepwise, front-below-steps, back-below-steps, front-through-steps, back-through-steps}
+use Rattle.laws.proofs.Kept as kept
+use Rattle.laws.proofs.PagesLeft.{pages-front-left, pages-back-left, pages-front-through-left, pages-back-through-left}
+use Rattle.laws.proofs.Kind.{Reads}
+use Rattle.laws.proofs.Ranges.{Items, Ends, Facts, drawnAt, settled}
 use Rattle.laws.proofs.Drawing.{each-once}
+use Rattle.laws.proofs.OneByOne.{Settled, settled as settled-is, one-by-one}
+use Rattle.table.specs.Level.{powerOf}
 use Rattle.table.specs.declared.size.PageSize.{PageSize}
+use Rattle.table.proofs.Sizes.{bounds}
 use Rattle.addr.specs.Widths.{widthOf}
+use Rattle.addr.specs.Item.{firstRefusal, itemRefusal, itemsRefusal}
 use Rattle.addr.specs.declared.width.Width.{Width}
+use Rattle.addr.proofs.Widths.{widths}
 use Rattle.page.specs.Page.{start, bytes}
-use Rattle.page.specs.Range.{pageAnswer, refusal, nthOf, nthBackOf, nthInclusiveOf, nthBackInclusiveOf, drawnOf, pagesOf, pagesInclusiveOf, drawFrom, drawInclusiveFrom}
-use Rattle.page.specs.declared.page.PageAnswer.{PageAnswer}
-use Rattle.page.specs.declared.page.PageAnswer.the-variants as page
+use Rattle.page.specs.Range.{pageAt, pageAnswer, itemOf, topPage, refusal, pages, drawnBelow, drawnThrough, nthOf, nthBackOf, nthInclusiveOf, nthBackInclusiveOf, pagesOf, pagesInclusiveOf, given, givenInclusive, empty, emptyInclusive, len, lenInclusive, nthFrom, nthInclusiveFrom, nextFrom, nextInclusiveFrom}
+use Rattle.page.specs.declared.page.Page.{Page}
 use Rattle.page.specs.declared.range.PageRange.{PageRange}
 use Rattle.page.specs.declared.range_inclusive.PageRangeInclusive.{PageRangeInclusive}
-use Rattle.page.proofs.Ranges.{nth-refused, nth-gap, nth-given, nth-back-refused, nth-back-gap, nth-back-given, nth-inclusive-refused, nth-inclusive-gap, nth-inclusive-given, nth-back-inclusive-refused, nth-back-inclusive-gap, nth-back-inclusive-given}
-use Rattle.page.proofs.Left.{nth-left, nth-back-left, nth-inclusive-left, nth-back-inclusive-left}
+use Rattle.page.proofs.Ranges as ranges
 
-module _ {S : Type 0} (s : S) (d : Drawn S) where
-  given-left : (a : PageAnswer) → drawnOf a s ≡ some d → d .left ≡ s
-  given-left (page.Refused k) h = absurd (let z : _≡_ {A = ℕ} 0 1 = cc in omega arith)
-  given-left page.None h = cc
-  given-left (page.Page p) h = cc
+answer-gives : (z : PageSize) (i : Option ℕ) → itemOf (pageAnswer z i) ≡ some i
+unfolding pageAnswer
+answer-gives z none = refl
+answer-gives z (some a) = refl
 
-  given-item : (z : PageSize) (x : Option ℕ) → drawnOf (pageAnswer z x) s ≡ some d → d .item ≡ x
-  unfolding pageAnswer
-  given-item z none h = cc
-  given-item z (some a) h = cc
+items : Items pages start bytes
+items =
+    record {
+      reads = record { of-answer = λ x i. answer-gives (x .size) i; of-refusal = λ m. refl };
+      start-of = λ x a. refl;
+      bytes-of = λ x a. refl;
+      again = λ x a b. refl;
+      same = λ x. refl;
+    }
 
-  refused-not : (k : ℕ) (a : PageAnswer) → page.Refused k ≡ a → drawnOf a s ≡ some d → ⊥
-  refused-not k a e h = let i : none ≡ some d = rw (← e) at h in let z : _≡_ {A = ℕ} 0 1 = cc in omega arith
+passed : (k : ℕ) (gap : Bool) → firstRefusal k (cond gap drawMeetsGap 0) ≡ 0 → (k ≡ 0) × (gap ≡ false)
+passed zero true h = absurd (omega arith)
+passed zero false h = (refl, refl)
+passed (suc k) true h = absurd (omega arith)
+passed (suc k) false h = absurd (omega arith)
 
-  -- a draw that is not refused, by the ways through it: its range is accepted, it does not meet the gap, and it gives `x`
-  not-refused : (k : ℕ) (gap : Bool) (a : PageAnswer) (z : PageSize) (x : Option ℕ) → ((k ≡ 0 → ⊥) → page.Refused k ≡ a) → (k ≡ 0 → gap ≡ true → page.Refused 10 ≡ a)
-      → (k ≡ 0 → gap ≡ false → pageAnswer z x ≡ a) → drawnOf a s ≡ some d → (k ≡ 0) × (gap ≡ false) × (d .item ≡ x) × (d .left ≡ s)
-  not-refused k true a z x f t g h = by-cases (ℕ-discrete k 0) (λ e. absurd (refused-not 10 a (t e refl) h)) (λ n. absurd (refused-not k a (f n) h))
-  not-refused k false a z x f t g h =
-      by-cases (ℕ-discrete k 0) (λ e. (e, refl, given-item z x (rw (← g e refl) at h), given-left a h)) (λ n. absurd (refused-not k a (f n) h))
+-- the numbers that a draw leaves, where it does not meet the gap: both of pages
+record Pages (w z : ℕ) (d : draw.Draw) : Type 0 where
+  start-below : d .start < 2 ^ 64
+  end-below : d .end < 2 ^ 64
+  start-half : half w ≤ d .start → firstHigh w ≤ d .start
+  end-half : half w ≤ d .end → firstHigh w ≤ d .end
+  multiples : kept.Multiples z d
 
-module _ (v : Width) (r : PageRange) (d : Drawn PageRange) where
-  front-drawn : drawFrom (widthOf v) front r ≡ some d → (d .item ≡ getElem? (pagesOf (widthOf v) r) 0) × (pagesOf (widthOf v) (d .left) ≡ drop 1 (pagesOf (widthOf v) r))
-  front-drawn h =
-      let x = nthOf (widthOf v) r 0 in
-      let gap = gapFrontBelow (widthOf v) (start (r .start)) (start (r .end)) (bytes (r .start)) 0 in
-      let (e, g, i, l) = not-refused (x .range) d (refusal (widthOf v) (r .start) (r .end)) gap (x .answer) (r .start .size) (getElem? (pagesOf (widthOf v) r) 0) (λ n. ap (λ y. y .answer) (nth-refused v r 0 n)) (λ e t. ap (λ y. y .answer) (nth-gap v r 0 e t)) (λ e f. ap (λ y. y .answer) (nth-given v r 0 e f)) h in
-      (i, rw l (nth-left v r 0 e g))
+accepted-left : (v : Width) (x y : Page) (d : draw.Draw) → refusal (widthOf v) x y ≡ 0 → Pages (widthOf v) (bytes x) d → refusal (widthOf v) (pageAt (x .size) (d .start)) (pageAt (y .size) (d .end)) ≡ 0
+unfolding itemsRefusal itemRefusal
+accepted-left v x y d e p =
+    let k = ranges.accepted v x y e in
+    let w = widthOf v in
+    simp (
+      canonical-halves w (widths v) (d .start) (p .start-below) (p .start-half),
+      canonical-halves w (widths v) (d .end) (p .end-below) (p .end-half),
+      eq-eqb (d .start % bytes x) 0 (p .multiples .start),
+      eq-eqb (d .end % bytes y) 0 (rw (← k .same) (p .multiples .end)),
+      eq-eqb (bytes x) (bytes y) (k .same),
+    )
 
-  back-drawn : drawFrom (widthOf v) back r ≡ some d → (d .item ≡ getElem? (reverse (pagesOf (widthOf v) r)) 0) × (reverse (pagesOf (widthOf v) (d .left)) ≡ drop 1 (reverse (pagesOf (widthOf v) r)))
-  back-drawn h =
-      let x = nthBackOf (widthOf v) r 0 in
-      let gap = gapBackBelow (widthOf v) (start (r .start)) (start (r .end)) (bytes (r .start)) 0 in
-      let (e, g, i, l) = not-refused (x .range) d (refusal (widthOf v) (r .start) (r .end)) gap (x .answer) (r .start .size) (getElem? (reverse (pagesOf (widthOf v) r)) 0) (λ n. ap (λ y. y .answer) (nth-back-refused v r 0 n)) (λ e t. ap (λ y. y .answer) (nth-back-gap v r 0 e t)) (λ e f. ap (λ y. y .answer) (nth-back-given v r 0 e f)) h in
-      (i, rw l (nth-back-left v r 0 e g))
+-- the draws on numbers, by the size
+abbrev onFront : ℕ → ℕ → ℕ → ℕ → draw.Draw
+onFront z a b n = draw.frontBelow (below a b z) a b z n
 
-module _ (v : Width) (r : PageRangeInclusive) (d : Drawn PageRangeInclusive) where
-  front-inclusive-drawn : drawInclusiveFrom (widthOf v) front r ≡ some d → (d .item ≡ getElem? (pagesInclusiveOf (widthOf v) r) 0) × (pagesInclusiveOf (widthOf v) (d .left) ≡ drop 1 (pagesInclusiveOf (widthOf v) r))
-  front-inclusive-drawn h =
-      let x = nthInclusiveOf (widthOf v) r 0 in
-      let gap = gapFrontThrough (widthOf v) (start (r .start)) (start (r .end)) (bytes (r .start)) 0 in
-      let (e, g, i, l) = not-refused (x .range) d (refusal (widthOf v) (r .start) (r .end)) gap (x .answer) (r .start .size) (getElem? (pagesInclusiveOf (widthOf v) r) 0) (λ n. ap (λ y. y .answer) (nth-inclusive-refused v r 0 n)) (λ e t. ap (λ y. y .answer) (nth-inclusive-gap v r 0 e t)) (λ e f. ap (λ y. y .answer) (nth-inclusive-given v r 0 e f)) h in
-      (i, rw l (nth-inclusive-left v r 0 e g))
+abbrev onBack : ℕ → ℕ → ℕ → ℕ → draw.Draw
+onBack z a b n = draw.backBelow (below a b z) a b z n
 
-  back-inclusive-drawn : drawInclusiveFrom (widthOf v) back r ≡ some d → (d .item ≡ getElem? (reverse (pagesInclusiveOf (widthOf v) r)) 0) × (reverse (pagesInclusiveOf (widthOf v) (d .left)) ≡ drop 1 (reverse (pagesInclusiveOf (widthOf v) r)))
-  back-inclusive-drawn h =
-      let x = nthBackInclusiveOf (widthOf v) r 0 in
-      let gap = gapBackThrough (widthOf v) (start (r .start)) (start (r .end)) (bytes (r .start)) 0 in
-      let (e, g, i, l) = not-refused (x .range) d (refusal (widthOf v) (r .start) (r .end)) gap (x .answer) (r .start .size) (getElem? (reverse (pagesInclusiveOf (widthOf v) r)) 0) (λ n. ap (λ y. y .answer) (nth-back-inclusive-refused v r 0 n)) (λ e t. ap (λ y. y .answer) (nth-back-inclusive-gap v r 0 e t)) (λ e f. ap (λ y. y .answer) (nth-back-inclusive-given v r 0 e f)) h in
-      (i, rw l (nth-back-inclusive-left v r 0 e g))
+abbrev onFrontInclusive : ℕ → ℕ → ℕ → ℕ → draw.Draw
+onFrontInclusive z a b n = draw.frontThrough (through a b z) (topPage z) a b z n
 
-pub pages-once : (v : Width) → EachOnce (pagesOf (widthOf v)) (drawFrom (widthOf v))
-pages-once v = each-once (pagesOf (widthOf v)) (drawFrom (widthOf v)) (record { from-front = front-drawn v; from-back = back-drawn v })
+abbrev onBackInclusive : ℕ → ℕ → ℕ → ℕ → draw.Draw
+onBackInclusive z a b n = draw.backThrough (through a b z) a b z n
 
-pub pages-inclusive-once : (v : Width) → EachOnce (pagesInclusiveOf (widthOf v)) (drawInclusiveFrom (widthOf v))
-pages-inclusive-once v =
-    each-once (pagesInclusiveOf (widthOf v)) (drawInclusiveFrom (widthOf v)) (record { from-front = front-inclusive-drawn v; from-back = back-inclusive-drawn v })
+module _ (v : Width) (x y : Page) (e : refusal (widthOf v) x y ≡ 0) where
+  abbrev w : ℕ
+  w = widthOf v
+
+  abbrev ends-of : PageEnds w (bytes x) (start x) (start y)
+  ends-of = ranges.accepted v x y e .ends
+
+  top-multiple : topPage (bytes x) % bytes x ≡ 0
+  top-multiple = top-whole (powerOf (x .size)) 64 (omega (arith, bounds (x .size)))
+
+  -- two pages fit into a half
+  two-fit : bytes x + bytes x ≤ half w
+  two-fit = omega (arith, ranges.accepted v x y e .small, pow-mono {i = 47} {j = w - 1} (omega (arith, ranges.wide v)))
+
+  top-high : firstHigh w + bytes x ≤ topPage (bytes x)
+  top-high = omega (arith, two-fit, sizes w (widths v))
+
+  front-pages : draw.gapFrontBelow w (start x) (start y) (bytes x) 0 ≡ false → Pages w (bytes x) (onFront (bytes x) (start x) (start y) 0)
+  front-pages g =
+      let a = ranges.accepted v x y e in
+      record {
+        start-below = omega (arith, front-below-start (below (start x) (start y) (bytes x)) (start x) (start y) (bytes x) 0, a .first, a .last, a .ends .some);
+        end-below = omega (arith, a .last, a .ends .some);
+        start-half = kept.front-below-half w (bytes x) (start x) (start y) (a .ends) g;
+        end-half = a .ends .high-end;
+        multiples = kept.front-below-multiples (below (start x) (start y) (bytes x)) (start x) (start y) (bytes x) 0 (a .whole) (a .last-whole);
+      }

@@ -1,9 +1,8 @@
 -- `draw_nth_back_at` meets its contract.
 use mathlib.Core.Path.{sym, ap, _∙_}
-use mathlib.Core.Bool.{false}
 use borrow.Author.Needs.{needs}
 use Rattle.laws.specs.Draw as draw
-use Rattle.addr.specs.Widths.{widthOf}
+use Rattle.page.specs.Range.{drawnBelow}
 use Rattle.page.proofs.Ranges.{accepted, settled, nth-back-refused, nth-back-gap, nth-back-settled}
 use Rattle.page.proofs.range.draw_nth_back_at.Statement.{statement}
 use Rattle.page.proofs.range.draw_nth_back_at.Tie as tie
@@ -45,7 +44,7 @@ returns-3 c =
       c .before .before .page-answer .ensures,
       c .before .page-at .ensures,
       c .page-at2 .ensures,
-    ) (ap (λ (d : draw.Draw). settled (widthOf v) r false d) (c .before .before .before .back-below .ensures) ∙ nth-back-settled v r (c .before .before .before .before .before .before .before .before .before .before .args .n) p (sym (c .before .before .before .before .before .gap-back-below .ensures) ∙ c .before .before .before .before .if2 .left))
+    ) (ap (λ (d : draw.Draw). settled drawnBelow (r .start) (r .end) d) (c .before .before .before .back-below .ensures) ∙ nth-back-settled v r (c .before .before .before .before .before .before .before .before .before .before .args .n) p (sym (c .before .before .before .before .before .gap-back-below .ensures) ∙ c .before .before .before .before .if2 .left))
 
 pub draw-nth-back-at-spec : {M : Type 1} → statement M
 draw-nth-back-at-spec =

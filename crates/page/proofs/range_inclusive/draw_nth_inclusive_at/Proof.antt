@@ -1,14 +1,12 @@
 -- `draw_nth_inclusive_at` meets its contract.
 use mathlib.Core.Path.{_≡_, sym, ap, _∙_}
-use mathlib.Core.Bool.{false}
 use Prim.Native.Nat.{_-_}
 use native.Mathlib.Omega.{arith}
 use borrow.Author.Needs.{needs}
 use Rattle.laws.specs.Draw as draw
-use Rattle.addr.specs.Widths.{widthOf}
 use Rattle.page.specs.Page.{bytes}
-use Rattle.page.specs.Range.{topPage}
-use Rattle.page.proofs.Ranges.{accepted, settledInclusive, nth-inclusive-refused, nth-inclusive-gap, nth-inclusive-settled}
+use Rattle.page.specs.Range.{topPage, drawnThrough}
+use Rattle.page.proofs.Ranges.{accepted, settled, nth-inclusive-refused, nth-inclusive-gap, nth-inclusive-settled}
 use Rattle.page.proofs.range_inclusive.draw_nth_inclusive_at.Statement.{statement}
 use Rattle.page.proofs.range_inclusive.draw_nth_inclusive_at.Tie as tie
 
@@ -62,7 +60,7 @@ returns-3 c =
       c .before .before .page-answer .ensures,
       c .before .page-at .ensures,
       c .page-at2 .ensures,
-    ) (ap (λ (d : draw.Draw). settledInclusive (widthOf v) r false d) ((rw t at (c .before .before .before .front-through .ensures))) ∙ nth-inclusive-settled v r (c .before .before .before .before .before .before .before .before .before .before .before .args .n) p (sym (c .before .before .before .before .before .before .gap-front-through .ensures) ∙ c .before .before .before .before .before .if2 .left))
+    ) (ap (λ (d : draw.Draw). settled drawnThrough (r .start) (r .end) d) ((rw t at (c .before .before .before .front-through .ensures))) ∙ nth-inclusive-settled v r (c .before .before .before .before .before .before .before .before .before .before .before .args .n) p (sym (c .before .before .before .before .before .before .gap-front-through .ensures) ∙ c .before .before .before .before .before .if2 .left))
 
 pub draw-nth-inclusive-at-spec : {M : Type 1} → statement M
 draw-nth-inclusive-at-spec =
