@@ -1,6 +1,6 @@
 -- What the calls on ranges of frames answer. A draw answers the frame, none or the refusal's number, and the range left; on a refusal that is the range taken.
 -- The sentences are those of document 01, "Ranges".
-use Prim.Native.Nat.{ℕ, _-_, _^_, _≤_, _<_}
+use Prim.Native.Nat.{ℕ, _-_, _≤_, _<_}
 use mathlib.Core.Path.{_≡_}
 use mathlib.Core.Bool.{Bool, false, cond, _||_}
 use mathlib.Core.List.{List}
@@ -16,7 +16,7 @@ use Rattle.table.specs.declared.size.PageSize.{PageSize}
 use Rattle.addr.specs.Address.{phys}
 use Rattle.addr.specs.Item.{item, firstRefusal, itemsRefusal}
 use Rattle.addr.specs.Range.{Ends, ends}
-use Rattle.frame.specs.Frame.{start, bytes}
+use Rattle.frame.specs.Frame.{start, bytes, addresses}
 use Rattle.frame.specs.declared.frame.PhysFrame.{PhysFrame}
 use Rattle.frame.specs.declared.frame.FrameAnswer.{FrameAnswer}
 use Rattle.frame.specs.declared.frame.FrameAnswer.the-variants as frame
@@ -53,7 +53,7 @@ itemOf (frame.Frame f) = some (some (start f))
 
 -- the topmost frame of a size
 abbrev pub topFrame : ℕ → ℕ
-topFrame z = 2 ^ 52 - z
+topFrame z = addresses - z
 
 -- the number that refuses two frames
 abbrev pub refusal : PhysFrame → PhysFrame → ℕ
@@ -61,7 +61,7 @@ refusal x y = itemsRefusal (phys 52) (start x) (bytes x) (start y) (bytes y)
 
 -- "Frame draws: 11 if a start or end would leave 0 to 2^52 − 1": above it, or, where `under` says so, below it
 abbrev pub leavesMemory : Bool → draw.Draw → ℕ
-leavesMemory under d = cond (under || (leb (2 ^ 52) (d .start) || leb (2 ^ 52) (d .end))) drawLeavesMemory 0
+leavesMemory under d = cond (under || (leb addresses (d .start) || leb addresses (d .end))) drawLeavesMemory 0
 
 -- frames, as draws take them
 abbrev pub frames : Kind PhysFrame FrameAnswer

@@ -16,7 +16,6 @@ use Rattle.laws.proofs.Cases.{by-cases}
 use Rattle.laws.proofs.Run.{run-at, back-at, below-front, below-back, through-front, through-back, through-none}
 use Rattle.laws.proofs.Left.{all-front, all-back, front-below-left, back-below-left, front-through-left, back-through-left}
 
-
 -- the item one place further
 item-after : (l m : List ℕ) (n : ℕ) → m ≡ drop 1 l → getElem? m n ≡ getElem? l (suc n)
 item-after [] m n e = rw e

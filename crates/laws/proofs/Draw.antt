@@ -1,5 +1,5 @@
 -- Draws stay within the range's items: bounds of the start and the end after each, for any start and end that are at most `top`, the topmost item.
-use Prim.Native.Nat.{ℕ, _+_, _-_, _*_, _/_, _≤_, _<_, min, max}
+use Prim.Native.Nat.{ℕ, _+_, _-_, _*_, _/_, _%_, _≤_, _<_, min, max}
 use mathlib.Core.Path.{_≡_, refl, ap}
 use mathlib.Core.Bool.{Bool, true, false, _&&_}
 use mathlib.Core.List.{List, reverse}
@@ -13,6 +13,7 @@ use lib.ListN.{getElem?}
 use Rattle.laws.specs.Run.{lenBelow, lenThrough, below}
 use Rattle.laws.specs.Draw.{taken, frontBelow, backBelow, frontThrough, backThrough, underBackBelow, underFrontThrough}
 use Rattle.laws.proofs.Cases.{by-cases, and-false}
+use Rattle.laws.proofs.Align.{apart-whole}
 use Rattle.laws.proofs.Run.{back-at, steps-fit, fits-below, back-within, after-last}
 
 -- no end goes below 0
@@ -64,10 +65,10 @@ module _ (l : List ℕ) (a b s n : ℕ) where
         kept : (b < taken (lenThrough a b s) n * s → ⊥) → backThrough l a b s n .start ≤ top
         kept h = rw (le-ltb b (taken (lenThrough a b s) n * s) (omega arith)) ha
 
--- the end that a draw from the back leaves is the item drawn, where the ends are whole sizes apart
-pub end-at-item : (l : List ℕ) (a b s n x : ℕ) → 0 < s → (b - a) / s * s ≡ b - a → getElem? (reverse (below a b s)) n ≡ some x → backBelow l a b s n .end ≡ x
+-- the end that a draw from the back leaves is the item drawn, where both ends are multiples of the size
+pub end-at-item : (l : List ℕ) (a b s n x : ℕ) → 0 < s → a % s ≡ 0 → b % s ≡ 0 → getElem? (reverse (below a b s)) n ≡ some x → backBelow l a b s n .end ≡ x
 unfolding lenBelow
-end-at-item l a b s n x p e h = by-cases (decLt n ((b - a) / s)) found (λ m. absurd (none-at m))
+end-at-item l a b s n x p za zb h = by-cases (decLt n ((b - a) / s)) found (λ m. absurd (none-at m))
   where
     none-at : (n < (b - a) / s → ⊥) → ⊥
     none-at m =
@@ -77,6 +78,7 @@ end-at-item l a b s n x p e h = by-cases (decLt n ((b - a) / s)) found (λ m. ab
 
     found : n < (b - a) / s → b - taken ((b - a) / s) n * s ≡ x
     found m =
+        let e = apart-whole s a b za zb in
         let i : some (a + ((b - a) / s - 1 - n) * s) ≡ some x = rw (back-at a s ((b - a) / s) n, lt-ltb n ((b - a) / s) m) at h in
         let j : a + ((b - a) / s - 1 - n) * s ≡ x = cc in
         let t : min (n + 1) ((b - a) / s) ≡ n + 1 = omega arith in

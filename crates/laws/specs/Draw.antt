@@ -21,8 +21,8 @@ taken k n = min (n + 1) k
 abbrev pub frontBelow : List ℕ → ℕ → ℕ → ℕ → ℕ → Draw
 frontBelow l a b s n = record { item = getElem? l n; start = a + taken (lenBelow a b s) n * s; end = b }
 
--- "`nth_back(n)` gives the item n places before the back one and leaves end at that item (exclusive)": of ends that are whole sizes apart (`end-at-item` of
--- proofs/Draw.antt), as those of an accepted range are
+-- "`nth_back(n)` gives the item n places before the back one and leaves end at that item (exclusive)": of ends that are whole sizes apart, as those of
+-- an accepted range are (`end-at-item` of proofs/Draw.antt)
 abbrev pub backBelow : List ℕ → ℕ → ℕ → ℕ → ℕ → Draw
 backBelow l a b s n = record { item = getElem? (reverse l) n; start = a; end = b - taken (lenBelow a b s) n * s }
 

@@ -186,7 +186,7 @@ module _ (v : Width) (Empty : Page → Page → Type 0) (len : ℕ → ℕ → �
     (steps : (z : ℕ) → 0 < z → z ≤ topPage z → Stepwise (topPage z) (λ a b. len a b z) (on z))
     (pages-left : (x y : Page) → refusal (widthOf v) x y ≡ 0 → gap (widthOf v) (start x) (start y) (bytes x) 0 ≡ false → Pages (widthOf v) (bytes x) (on (bytes x) (start x) (start y) 0))
     (gap-after : (x y : Page) (n : ℕ) → refusal (widthOf v) x y ≡ 0 → gap (widthOf v) (start x) (start y) (bytes x) 0 ≡ false
-      → gap (widthOf v) (on (bytes x) (start x) (start y) 0 .start) (on (bytes x) (start x) (start y) 0 .end) (bytes x) n ≡ gap (widthOf v) (start x) (start y) (bytes x) (suc n))
+    → gap (widthOf v) (on (bytes x) (start x) (start y) 0 .start) (on (bytes x) (start x) (start y) 0 .end) (bytes x) n ≡ gap (widthOf v) (start x) (start y) (bytes x) (suc n))
     (gap-first : (x y : Page) (n : ℕ) → gap (widthOf v) (start x) (start y) (bytes x) (suc n) ≡ false → gap (widthOf v) (start x) (start y) (bytes x) 0 ≡ false)
     (empty-len : (x y : Page) → Empty x y → len (start x) (start y) (bytes x) ≡ 0)
     (empty-gap : (x y : Page) (n : ℕ) → PageEnds (widthOf v) (bytes x) (start x) (start y) → Empty x y → gap (widthOf v) (start x) (start y) (bytes x) n ≡ false) where
@@ -251,8 +251,8 @@ module _ (v : Width) where
       (λ z p q. front-through-steps z (topPage z) p q)
       (front-inclusive-pages v)
       (λ x y n e g.
-        let a = ranges.accepted v x y e in
-        kept.front-through-gap (widthOf v) (bytes x) (start x) (start y) (a .ends) (through (start x) (start y) (bytes x)) (topPage (bytes x)) (omega (arith, a .first)) (omega (arith, a .last)) (top-high v x y e) g n)
+      let a = ranges.accepted v x y e in
+      kept.front-through-gap (widthOf v) (bytes x) (start x) (start y) (a .ends) (through (start x) (start y) (bytes x)) (topPage (bytes x)) (omega (arith, a .first)) (omega (arith, a .last)) (top-high v x y e) g n)
       (λ x y n g. kept.front-through-first (widthOf v) (bytes x) (start x) (start y) n g)
       none-through
       (λ x y n p h. kept.front-through-none (widthOf v) (bytes x) (start x) (start y) n p h)
@@ -264,8 +264,8 @@ module _ (v : Width) where
       (λ z p q. back-through-steps z (topPage z) p q)
       (back-inclusive-pages v)
       (λ x y n e g.
-        let a = ranges.accepted v x y e in
-        kept.back-through-gap (widthOf v) (bytes x) (start x) (start y) (a .ends) (through (start x) (start y) (bytes x)) (topPage (bytes x)) (omega (arith, a .first)) (omega (arith, a .last)) (top-high v x y e) g n)
+      let a = ranges.accepted v x y e in
+      kept.back-through-gap (widthOf v) (bytes x) (start x) (start y) (a .ends) (through (start x) (start y) (bytes x)) (topPage (bytes x)) (omega (arith, a .first)) (omega (arith, a .last)) (top-high v x y e) g n)
       (λ x y n g. kept.back-through-first (widthOf v) (bytes x) (start x) (start y) n g)
       none-through
       (λ x y n p h. kept.back-through-none (widthOf v) (bytes x) (start x) (start y) n p h)
@@ -343,9 +343,10 @@ module _ (v : Width) (r : PageRangeInclusive) (d : Drawn PageRangeInclusive) whe
       let (e, g) = given-inclusive v front .free 0 r d h in
       let a = ranges.accepted v (r .start) (r .end) e in
       let t = top-high v (r .start) (r .end) e in
-      rw q
-      (sym (front-through (widthOf v) (bytes (r .start)) (start (r .start)) (start (r .end)) (a .ends) 0 g),
-      pages-front-through-left (widthOf v) (bytes (r .start)) (start (r .start)) (start (r .end)) (a .ends) all (topPage (bytes (r .start))) 0 (omega (arith, a .first)) (omega (arith, a .last)) (omega arith) g)
+      rw q (
+        sym (front-through (widthOf v) (bytes (r .start)) (start (r .start)) (start (r .end)) (a .ends) 0 g),
+        pages-front-through-left (widthOf v) (bytes (r .start)) (start (r .start)) (start (r .end)) (a .ends) all (topPage (bytes (r .start))) 0 (omega (arith, a .first)) (omega (arith, a .last)) (omega arith) g,
+      )
 
   back-inclusive-drawn : nextInclusiveFrom (widthOf v) back r ≡ some d → (d .item ≡ getElem? (reverse (pagesInclusiveOf (widthOf v) r)) 0) × (reverse (pagesInclusiveOf (widthOf v) (d .left)) ≡ drop 1 (reverse (pagesInclusiveOf (widthOf v) r)))
   back-inclusive-drawn h =
@@ -353,9 +354,10 @@ module _ (v : Width) (r : PageRangeInclusive) (d : Drawn PageRangeInclusive) whe
       let (e, g) = given-inclusive v back .free 0 r d h in
       let a = ranges.accepted v (r .start) (r .end) e in
       let t = top-high v (r .start) (r .end) e in
-      rw q
-      (sym (back-through (widthOf v) (bytes (r .start)) (start (r .start)) (start (r .end)) (a .ends) 0 g),
-      pages-back-through-left (widthOf v) (bytes (r .start)) (start (r .start)) (start (r .end)) (a .ends) all (topPage (bytes (r .start))) 0 (omega (arith, a .first)) (omega (arith, a .last)) (omega arith) g)
+      rw q (
+        sym (back-through (widthOf v) (bytes (r .start)) (start (r .start)) (start (r .end)) (a .ends) 0 g),
+        pages-back-through-left (widthOf v) (bytes (r .start)) (start (r .start)) (start (r .end)) (a .ends) all (topPage (bytes (r .start))) 0 (omega (arith, a .first)) (omega (arith, a .last)) (omega arith) g,
+      )
 
 pub pages-once : (v : Width) → EachOnce (pagesOf (widthOf v)) (nextFrom (widthOf v))
 pages-once v = each-once (pagesOf (widthOf v)) (nextFrom (widthOf v)) (record { from-front = front-drawn v; from-back = back-drawn v })

@@ -1,11 +1,11 @@
--- `draw_nth_at` meets its contract.
+-- `draw_nth` meets its contract.
 use mathlib.Core.Path.{sym, ap, _∙_}
 use borrow.Author.Needs.{needs}
 use Rattle.laws.specs.Draw as draw
 use Rattle.page.specs.Range.{drawnBelow}
 use Rattle.page.proofs.Ranges.{accepted, settled, nth-refused, nth-gap, nth-settled}
-use Rattle.page.proofs.range.draw_nth_at.Statement.{statement}
-use Rattle.page.proofs.range.draw_nth_at.Tie as tie
+use Rattle.page.proofs.width_draws.draw_nth.Statement.{statement}
+use Rattle.page.proofs.width_draws.draw_nth.Tie as tie
 
 pages-refusal-requires : tie.Need-pages-refusal-requires
 pages-refusal-requires c κs = search needs
@@ -46,8 +46,8 @@ returns-3 c =
       c .page-at2 .ensures,
     ) (ap (λ (d : draw.Draw). settled drawnBelow (r .start) (r .end) d) (c .before .before .before .front-below .ensures) ∙ nth-settled v r (c .before .before .before .before .before .before .before .before .before .before .args .n) p (sym (c .before .before .before .before .before .gap-front-below .ensures) ∙ c .before .before .before .before .if2 .left))
 
-pub draw-nth-at-spec : {M : Type 1} → statement M
-draw-nth-at-spec =
+pub draw-nth-spec : {M : Type 1} → statement M
+draw-nth-spec =
     tie.close
     (tie.spec
     pages-refusal-requires
