@@ -1,20 +1,22 @@
 -- What the calls on ranges of frames answer. A draw answers the frame, none or the refusal's number, and the range left; on a refusal that is the range taken.
 -- The sentences are those of document 01, "Ranges".
-use Prim.Native.Nat.{ℕ, _-_, _^_}
-use mathlib.Core.Bool.{cond, false}
+use Prim.Native.Nat.{ℕ, _-_, _≤_, _<_}
+use mathlib.Core.Path.{_≡_}
+use mathlib.Core.Bool.{Bool, false, cond, _||_}
 use mathlib.Core.List.{List}
 use mathlib.Core.Option.{Option, none, some}
-use lib.Dec.{ltb}
+use lib.Dec.{leb}
 use Rattle.answer.specs.Outcome.{Outcome, gives, refuses}
 use Rattle.answer.specs.Refusal.{drawLeavesMemory}
-use Rattle.laws.specs.Run.{below, through}
+use Rattle.laws.specs.Run.{below, through, lenBelow, lenThrough}
 use Rattle.laws.specs.Draw as draw
 use Rattle.laws.specs.Drawing.{Side, front, back, Drawn}
+use Rattle.laws.specs.Kind.{Kind, drawn, drawnOf}
 use Rattle.table.specs.declared.size.PageSize.{PageSize}
 use Rattle.addr.specs.Address.{phys}
 use Rattle.addr.specs.Item.{item, firstRefusal, itemsRefusal}
-use Rattle.addr.specs.Range.{Ends, ends, refusedOr}
-use Rattle.frame.specs.Frame.{start, bytes}
+use Rattle.addr.specs.Range.{Ends, ends}
+use Rattle.frame.specs.Frame.{start, bytes, addresses}
 use Rattle.frame.specs.declared.frame.PhysFrame.{PhysFrame}
 use Rattle.frame.specs.declared.frame.FrameAnswer.{FrameAnswer}
 use Rattle.frame.specs.declared.frame.FrameAnswer.the-variants as frame
@@ -43,57 +45,66 @@ unfoldable pub frameAnswer : PageSize → Option ℕ → FrameAnswer
 frameAnswer z none = frame.None
 frameAnswer z (some a) = frame.Frame (frameAt z a)
 
+-- where the frame that an answer gives starts; none where it is a refusal
+abbrev pub itemOf : FrameAnswer → Option (Option ℕ)
+itemOf (frame.Refused k) = none
+itemOf frame.None = some none
+itemOf (frame.Frame f) = some (some (start f))
+
 -- the topmost frame of a size
 abbrev pub topFrame : ℕ → ℕ
-topFrame z = 2 ^ 52 - z
+topFrame z = addresses - z
 
--- "Frame draws: 11 if a start or end would leave 0 to 2^52 − 1."
-abbrev pub leaves : draw.Draw → ℕ
-leaves d = cond (ltb (d .start) (2 ^ 52)) (cond (ltb (d .end) (2 ^ 52)) 0 drawLeavesMemory) drawLeavesMemory
+-- the number that refuses two frames
+abbrev pub refusal : PhysFrame → PhysFrame → ℕ
+refusal x y = itemsRefusal (phys 52) (start x) (bytes x) (start y) (bytes y)
 
--- a draw of an exclusive range, by a draw on its numbers
-abbrev pub drawnBelow : PhysFrameRange → draw.Draw → FrameDraw
-drawnBelow r d =
-    refusedOr (firstRefusal (itemsRefusal (phys 52) (start (r .start)) (bytes (r .start)) (start (r .end)) (bytes (r .end))) (leaves d)) (λ k. record { answer = frame.Refused k; range = r }) (record {
-      answer = frameAnswer (r .start .size) (d .item);
-      range = record { start = frameAt (r .start .size) (d .start); end = frameAt (r .end .size) (d .end) };
-    })
+-- "Frame draws: 11 if a start or end would leave 0 to 2^52 − 1": above it, or, where `under` says so, below it
+abbrev pub leavesMemory : Bool → draw.Draw → ℕ
+leavesMemory under d = cond (under || (leb addresses (d .start) || leb addresses (d .end))) drawLeavesMemory 0
+
+-- frames, as draws take them
+abbrev pub frames : Kind PhysFrame FrameAnswer
+frames = record { placed = λ x. frameAt (x .size); answered = λ x. frameAnswer (x .size); refused = frame.Refused; item = itemOf }
+
+-- a draw of an exclusive range and of an inclusive one: the answer and the range left
+abbrev pub drawnBelow : FrameAnswer → PhysFrame → PhysFrame → FrameDraw
+drawnBelow a x y = record { answer = a; range = record { start = x; end = y } }
+
+abbrev pub drawnThrough : FrameAnswer → PhysFrame → PhysFrame → FrameDrawInclusive
+drawnThrough a x y = record { answer = a; range = record { start = x; end = y } }
+
+-- a draw of the range from `x` to `y`, by whether its end would be below 0 and by a draw on its numbers
+abbrev pub framesDrawn : {D : Type 0} → (FrameAnswer → PhysFrame → PhysFrame → D) → PhysFrame → PhysFrame → Bool → draw.Draw → D
+framesDrawn made x y under d = drawn frames made x y (firstRefusal (refusal x y) (leavesMemory under d)) d
 
 unfoldable pub nthOf : PhysFrameRange → ℕ → FrameDraw
 nthOf r n =
     let a = start (r .start) in
     let b = start (r .end) in
     let z = bytes (r .start) in
-    drawnBelow r (draw.frontBelow (below a b z) a b z n)
+    framesDrawn drawnBelow (r .start) (r .end) false (draw.frontBelow (below a b z) a b z n)
 
 unfoldable pub nthBackOf : PhysFrameRange → ℕ → FrameDraw
 nthBackOf r n =
     let a = start (r .start) in
     let b = start (r .end) in
     let z = bytes (r .start) in
-    drawnBelow r (draw.backBelow (below a b z) a b z n)
-
--- the same of an inclusive range
-abbrev pub drawnThrough : PhysFrameRangeInclusive → draw.Draw → FrameDrawInclusive
-drawnThrough r d =
-    refusedOr (firstRefusal (itemsRefusal (phys 52) (start (r .start)) (bytes (r .start)) (start (r .end)) (bytes (r .end))) (leaves d)) (λ k. record { answer = frame.Refused k; range = r }) (record {
-      answer = frameAnswer (r .start .size) (d .item);
-      range = record { start = frameAt (r .start .size) (d .start); end = frameAt (r .end .size) (d .end) };
-    })
+    framesDrawn drawnBelow (r .start) (r .end) (draw.underBackBelow a b z n) (draw.backBelow (below a b z) a b z n)
 
 unfoldable pub nthInclusiveOf : PhysFrameRangeInclusive → ℕ → FrameDrawInclusive
 nthInclusiveOf r n =
     let a = start (r .start) in
     let b = start (r .end) in
     let z = bytes (r .start) in
-    drawnThrough r (draw.frontThrough (through a b z) (topFrame z) a b z n)
+    framesDrawn drawnThrough (r .start) (r .end) (draw.underFrontThrough (topFrame z) a b z n) (draw.frontThrough (through a b z) (topFrame z) a b z n)
 
 unfoldable pub nthBackInclusiveOf : PhysFrameRangeInclusive → ℕ → FrameDrawInclusive
 nthBackInclusiveOf r n =
     let a = start (r .start) in
     let b = start (r .end) in
     let z = bytes (r .start) in
-    drawnThrough r (draw.backThrough (through a b z) a b z n)
+    framesDrawn drawnThrough (r .start) (r .end) false (draw.backThrough (through a b z) a b z n)
 
 -- where the frames of a range start
 abbrev pub framesOf : PhysFrameRange → List ℕ
@@ -102,17 +113,36 @@ framesOf r = below (start (r .start)) (start (r .end)) (bytes (r .start))
 abbrev pub framesInclusiveOf : PhysFrameRangeInclusive → List ℕ
 framesInclusiveOf r = through (start (r .start)) (start (r .end)) (bytes (r .start))
 
--- a draw as what it gives and the range left, `s`; none where it is refused
-abbrev pub drawnOf : {S : Type 0} → FrameAnswer → S → Option (Drawn S)
-drawnOf (frame.Refused k) s = none
-drawnOf frame.None s = some (record { item = none; left = s })
-drawnOf (frame.Frame f) s = some (record { item = some (start f); left = s })
+-- the ranges that no call refuses; "An exclusive range is empty if start ≥ end, an inclusive one if start > end"; `len`
+abbrev pub given : PhysFrameRange → Type 0
+given r = refusal (r .start) (r .end) ≡ 0
 
--- `next` and `next_back`
-abbrev pub drawFrom : Side → PhysFrameRange → Option (Drawn PhysFrameRange)
-drawFrom front r = drawnOf (nthOf r 0 .answer) (nthOf r 0 .range)
-drawFrom back r = drawnOf (nthBackOf r 0 .answer) (nthBackOf r 0 .range)
+abbrev pub givenInclusive : PhysFrameRangeInclusive → Type 0
+givenInclusive r = refusal (r .start) (r .end) ≡ 0
 
-abbrev pub drawInclusiveFrom : Side → PhysFrameRangeInclusive → Option (Drawn PhysFrameRangeInclusive)
-drawInclusiveFrom front r = drawnOf (nthInclusiveOf r 0 .answer) (nthInclusiveOf r 0 .range)
-drawInclusiveFrom back r = drawnOf (nthBackInclusiveOf r 0 .answer) (nthBackInclusiveOf r 0 .range)
+abbrev pub empty : PhysFrameRange → Type 0
+empty r = start (r .end) ≤ start (r .start)
+
+abbrev pub emptyInclusive : PhysFrameRangeInclusive → Type 0
+emptyInclusive r = start (r .end) < start (r .start)
+
+abbrev pub len : PhysFrameRange → ℕ
+len r = lenBelow (start (r .start)) (start (r .end)) (bytes (r .start))
+
+abbrev pub lenInclusive : PhysFrameRangeInclusive → ℕ
+lenInclusive r = lenThrough (start (r .start)) (start (r .end)) (bytes (r .start))
+
+-- a draw as what it gives and leaves; "`next` and `next_back` are n = 0"
+abbrev pub nthFrom : Side → ℕ → PhysFrameRange → Option (Drawn PhysFrameRange)
+nthFrom front n r = drawnOf frames (nthOf r n .answer) (nthOf r n .range)
+nthFrom back n r = drawnOf frames (nthBackOf r n .answer) (nthBackOf r n .range)
+
+abbrev pub nthInclusiveFrom : Side → ℕ → PhysFrameRangeInclusive → Option (Drawn PhysFrameRangeInclusive)
+nthInclusiveFrom front n r = drawnOf frames (nthInclusiveOf r n .answer) (nthInclusiveOf r n .range)
+nthInclusiveFrom back n r = drawnOf frames (nthBackInclusiveOf r n .answer) (nthBackInclusiveOf r n .range)
+
+abbrev pub nextFrom : Side → PhysFrameRange → Option (Drawn PhysFrameRange)
+nextFrom side r = nthFrom side 0 r
+
+abbrev pub nextInclusiveFrom : Side → PhysFrameRangeInclusive → Option (Drawn PhysFrameRangeInclusive)
+nextInclusiveFrom side r = nthInclusiveFrom side 0 r

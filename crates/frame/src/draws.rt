@@ -1,12 +1,14 @@
 // Frames from what is drawn on numbers.
 use crate::frame::FrameAnswer;
 use crate::frame::PhysFrame;
+use crate::frame::SIZE;
 use addr::PhysAddr;
 use draw::Item;
 use table::PageSize;
 ghost use mathlib.Core.Path.{_≡_};
+ghost use Rattle.table.specs.Level.{bytesOf};
 ghost use Rattle.draw.specs.Draws.{itemOf};
-ghost use Rattle.frame.specs.Range.{frameAt, frameAnswer};
+ghost use Rattle.frame.specs.Range.{frameAt, frameAnswer, topFrame};
 
 pub(crate) fn frame_at(size: PageSize, start: u64) -> PhysFrame
     ensures { λ r. ⌜ r ≡ frameAt size start ⌝ }
@@ -24,4 +26,11 @@ pub(crate) fn frame_answer(size: PageSize, item: Item) -> FrameAnswer
         Item::At(a) => FrameAnswer::Frame(frame_at(size, a)),
         Item::None => FrameAnswer::None,
     }
+}
+
+// The topmost frame of a size.
+pub(crate) fn top_frame(size: PageSize) -> u64
+    ensures { λ r. ⌜ r ≡ topFrame (bytesOf size) ⌝ }
+{
+    SIZE - size.bytes()
 }

@@ -71,6 +71,13 @@ pub fn draw_nth(range: PhysFrameRange, n: u64) -> FrameDraw
     }
 }
 
+// The same with n = 0.
+pub fn draw_next(range: PhysFrameRange) -> FrameDraw
+    ensures { λ d. ⌜ d ≡ nthOf range 0 ⌝ }
+{
+    draw_nth(range, 0)
+}
+
 // The frame n places from the back, and the range up to it.
 pub fn draw_nth_back(range: PhysFrameRange, n: u64) -> FrameDraw
     ensures { λ d. ⌜ d ≡ nthBackOf range n ⌝ }
@@ -97,14 +104,7 @@ pub fn draw_nth_back(range: PhysFrameRange, n: u64) -> FrameDraw
     }
 }
 
-// `draw_nth` with n = 0.
-pub fn draw_next(range: PhysFrameRange) -> FrameDraw
-    ensures { λ d. ⌜ d ≡ nthOf range 0 ⌝ }
-{
-    draw_nth(range, 0)
-}
-
-// `draw_nth_back` with n = 0.
+// The same with n = 0.
 pub fn draw_next_back(range: PhysFrameRange) -> FrameDraw
     ensures { λ d. ⌜ d ≡ nthBackOf range 0 ⌝ }
 {

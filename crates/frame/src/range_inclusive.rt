@@ -1,9 +1,9 @@
 // A range of frames, with its end.
 use crate::draws::frame_answer;
 use crate::draws::frame_at;
+use crate::draws::top_frame;
 use crate::frame::FrameAnswer;
 use crate::frame::PhysFrame;
-use crate::frame::SIZE;
 use crate::frame::frames_refusal;
 use answer::BoolAnswer;
 use answer::U64Answer;
@@ -64,7 +64,7 @@ pub fn draw_nth_inclusive(range: PhysFrameRangeInclusive, n: u64) -> FrameDrawIn
         start.start_address.0,
         end.start_address.0,
         size,
-        SIZE - size.bytes(),
+        top_frame(size),
         n,
     );
     let item = d.item;
@@ -76,6 +76,13 @@ pub fn draw_nth_inclusive(range: PhysFrameRangeInclusive, n: u64) -> FrameDrawIn
             end: frame_at(end_size, d.end),
         },
     }
+}
+
+// The same with n = 0.
+pub fn draw_next_inclusive(range: PhysFrameRangeInclusive) -> FrameDrawInclusive
+    ensures { λ d. ⌜ d ≡ nthInclusiveOf range 0 ⌝ }
+{
+    draw_nth_inclusive(range, 0)
 }
 
 // The frame n places from the back, and the range up to it.
@@ -104,14 +111,7 @@ pub fn draw_nth_back_inclusive(range: PhysFrameRangeInclusive, n: u64) -> FrameD
     }
 }
 
-// `draw_nth_inclusive` with n = 0.
-pub fn draw_next_inclusive(range: PhysFrameRangeInclusive) -> FrameDrawInclusive
-    ensures { λ d. ⌜ d ≡ nthInclusiveOf range 0 ⌝ }
-{
-    draw_nth_inclusive(range, 0)
-}
-
-// `draw_nth_back_inclusive` with n = 0.
+// The same with n = 0.
 pub fn draw_next_back_inclusive(range: PhysFrameRangeInclusive) -> FrameDrawInclusive
     ensures { λ d. ⌜ d ≡ nthBackInclusiveOf range 0 ⌝ }
 {

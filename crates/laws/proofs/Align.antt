@@ -4,7 +4,7 @@ use mathlib.Core.Logic.{_↔_}
 use Prim.Native.Nat.{ℕ, zero, suc, _+_, _-_, _*_, _/_, _%_, _^_, _≤_, _<_}
 use native.Mathlib.Omega.{arith}
 use native.Mathlib.Decide.{decLt}
-use native.Mathlib.Nat.{pow-suc, div-add-mod', mul-mod-left, mul-le-mul-right, le-div-iff-mul-le, div-eq-of-lt-le, mod-lt, add-mul, div-lt-iff-lt-mul, mul-div-cancel, lt-of-mul-lt-mul-right, suc-mul}
+use native.Mathlib.Nat.{pow-suc, div-add-mod', mul-mod-left, mul-le-mul-right, le-div-iff-mul-le, div-eq-of-lt-le, mod-lt, add-mul, div-lt-iff-lt-mul, mul-div-cancel, lt-of-mul-lt-mul-right, suc-mul, mod-eq-zero-of-dvd, dvd-of-mod-eq-zero, dvd-sub, dvd-refl, div-mul-cancel}
 use lib.Arith.{bin-ind}
 use lib.Bits.{bitAnd, and-mask}
 use lib.Count.{ones, ones-step, ones-cat}
@@ -118,3 +118,14 @@ under-top k m a h l z =
     let q : a / 2 ^ k < 2 ^ m / 2 ^ k = lt-of-mul-lt-mul-right (2 ^ k) (omega arith) in
     let g : suc (a / 2 ^ k) * 2 ^ k ≤ 2 ^ m / 2 ^ k * 2 ^ k = mul-le-mul-right (2 ^ k) q in
     omega (arith, suc-mul (a / 2 ^ k) (2 ^ k))
+
+-- a larger power of two is a multiple of it, and so is the topmost multiple below that
+pub power-whole : (k m : ℕ) → k ≤ m → 2 ^ m % 2 ^ k ≡ 0
+power-whole k m h = let e = pow-blocks k m h in let q = mul-mod-left (2 ^ m / 2 ^ k) (2 ^ k) in rw e at q
+
+pub top-whole : (k m : ℕ) → k ≤ m → (2 ^ m - 2 ^ k) % 2 ^ k ≡ 0
+top-whole k m h = mod-eq-zero-of-dvd (2 ^ k) (dvd-sub (2 ^ k) (dvd-of-mod-eq-zero (2 ^ k) (power-whole k m h)) (dvd-refl (2 ^ k)))
+
+-- two multiples are whole sizes apart
+pub apart-whole : (s x y : ℕ) → x % s ≡ 0 → y % s ≡ 0 → (y - x) / s * s ≡ y - x
+apart-whole s x y p q = div-mul-cancel s (dvd-sub s (dvd-of-mod-eq-zero s q) (dvd-of-mod-eq-zero s p))

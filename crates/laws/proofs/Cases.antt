@@ -1,6 +1,6 @@
 -- Decisions and tests, taken apart.
-use mathlib.Core.Path.{_≡_, sym, _∙_}
-use mathlib.Core.Bool.{Bool, true, false, not}
+use mathlib.Core.Path.{_≡_, refl, sym, _∙_}
+use mathlib.Core.Bool.{Bool, true, false, not, _&&_}
 use borrow.Author.Tests.{not-true, not-false}
 
 pub by-cases : {A C : Type 0} → Dec A → (A → C) → ((A → ⊥) → C) → C
@@ -13,3 +13,7 @@ test-fails {r} e h = sym e ∙ not-true r h
 
 pub test-holds : {r t : Bool} → r ≡ t → not r ≡ false → t ≡ true
 test-holds {r} e h = sym e ∙ not-false r h
+
+pub and-false : (t : Bool) → (t && false) ≡ false
+and-false true = refl
+and-false false = refl

@@ -30,23 +30,14 @@ empty : (l : List ℕ) → length l ≤ 0 → l ≡ []
 empty [] h = refl
 empty (x ∷ l) h = absurd (omega arith)
 
-same-some : {A : Type 0} {x y : A} → _≡_ {A = Option A} (some x) (some y) → x ≡ y
+pub same-some : {A : Type 0} {x y : A} → _≡_ {A = Option A} (some x) (some y) → x ≡ y
 same-some e = cc
 
-left-added : {S : Type 0} (side : Side) (x : Option ℕ) (d : Drawing S) → added side x d .left ≡ d .left
+pub left-added : {S : Type 0} (side : Side) (x : Option ℕ) (d : Drawing S) → added side x d .left ≡ d .left
 left-added front x d = refl
 left-added back x d = refl
 
-module _ {S : Type 0} (items : S → List ℕ) (draw : Side → S → Option (Drawn S)) (p : Draws items draw) where
-  -- the items of a range, by what a draw gives and those of the range that it leaves
-  front-step : (r : S) (e : Drawn S) → draw front r ≡ some e → withItem (e .item) (items (e .left)) ≡ items r
-  front-step r e h = rw (p .from-front r e h .1) (first-and-rest (items r) (e .item) (p .from-front r e h .0))
-
-  back-step : (r : S) (e : Drawn S) → draw back r ≡ some e → items (e .left) ++ withItem (e .item) [] ≡ items r
-  back-step r e h =
-      let k : withItem (e .item) (reverse (items (e .left))) ≡ reverse (items r) = rw (p .from-back r e h .1) (first-and-rest (reverse (items r)) (e .item) (p .from-back r e h .0)) in
-      ap (λ (l : List ℕ). l ++ withItem (e .item) []) (sym (reverse-reverse (items (e .left)))) ∙ sym (reverse-and (e .item) (reverse (items (e .left)))) ∙ ap reverse k ∙ reverse-reverse (items r)
-
+module _ {S : Type 0} (draw : Side → S → Option (Drawn S)) where
   -- the first draw of several, and the others
   pub first-draw : (side : Side) (sides : List Side) (r : S) (d : Drawing S) → drawing draw (side ∷ sides) r ≡ some d
       → (e : Drawn S) × (d′ : Drawing S) × (draw side r ≡ some e) × (drawing draw sides (e .left) ≡ some d′) × (added side (e .item) d′ ≡ d)
@@ -63,15 +54,25 @@ module _ {S : Type 0} (items : S → List ℕ) (draw : Side → S → Option (Dr
       go none k = absurd (let q : none ≡ some d = rw (k, drawing) at h in let z : _≡_ {A = ℕ} 0 1 = cc in omega arith)
       go (some e) k = others e (drawing draw sides (e .left)) refl (rw (k, drawing) at h) k
 
+module _ {S : Type 0} (items : S → List ℕ) (draw : Side → S → Option (Drawn S)) (p : Draws items draw) where
+  -- the items of a range, by what a draw gives and those of the range that it leaves
+  front-step : (r : S) (e : Drawn S) → draw front r ≡ some e → withItem (e .item) (items (e .left)) ≡ items r
+  front-step r e h = rw (p .from-front r e h .1) (first-and-rest (items r) (e .item) (p .from-front r e h .0))
+
+  back-step : (r : S) (e : Drawn S) → draw back r ≡ some e → items (e .left) ++ withItem (e .item) [] ≡ items r
+  back-step r e h =
+      let k : withItem (e .item) (reverse (items (e .left))) ≡ reverse (items r) = rw (p .from-back r e h .1) (first-and-rest (reverse (items r)) (e .item) (p .from-back r e h .0)) in
+      ap (λ (l : List ℕ). l ++ withItem (e .item) []) (sym (reverse-reverse (items (e .left)))) ∙ sym (reverse-and (e .item) (reverse (items (e .left)))) ∙ ap reverse k ∙ reverse-reverse (items r)
+
   in-order : (sides : List Side) (r : S) (d : Drawing S) → drawing draw sides r ≡ some d → d .fronts ++ (items (d .left) ++ reverse (d .backs)) ≡ items r
   unfolding drawing
   in-order [] r d h = rw (← same-some h) (append-nil (items r))
   in-order (front ∷ sides) r d h =
-      let (e, d′, k, q, f) = first-draw front sides r d h in
+      let (e, d′, k, q, f) = first-draw draw front sides r d h in
       rw (← f)
       (and-append (e .item) (d′ .fronts) (items (d′ .left) ++ reverse (d′ .backs)) ∙ ap (withItem (e .item)) (in-order sides (e .left) d′ q) ∙ front-step r e k)
   in-order (back ∷ sides) r d h =
-      let (e, d′, k, q, f) = first-draw back sides r d h in
+      let (e, d′, k, q, f) = first-draw draw back sides r d h in
       let l = items (d′ .left) in
       rw (← f)
       (ap (λ (m : List ℕ). d′ .fronts ++ (l ++ m)) (reverse-and (e .item) (d′ .backs))
@@ -90,7 +91,7 @@ module _ {S : Type 0} (items : S → List ℕ) (draw : Side → S → Option (Dr
   unfolding drawing
   to-the-end [] r d h k = rw (← same-some h) (empty (items r) k)
   to-the-end (side ∷ sides) r d h k =
-      let (e, d′, f, q, g) = first-draw side sides r d h in
+      let (e, d′, f, q, g) = first-draw draw side sides r d h in
       rw (← g, left-added side (e .item) d′) (to-the-end sides (e .left) d′ q (omega (arith, one-fewer side r e f)))
 
   pub each-once : EachOnce items draw

@@ -6,7 +6,7 @@ use mathlib.Core.List.{List, [], _∷_, _++_, reverse, reverse-append, append-ni
 use mathlib.Core.Option.{Option, none, some}
 use native.Mathlib.Omega.{arith}
 use native.Mathlib.Decide.{decLt}
-use native.Mathlib.Nat.{le-div-iff-mul-le, div-mul-le-self, le-trans, min-eq-left, min-eq-right, max-eq-left, max-eq-right, sub-eq-zero-of-le, zero-div, add-mul, add-div-right, div-mul-cancel, dvd-sub, dvd-of-mod-eq-zero, mod-eq-zero-of-dvd, mul-mod-left}
+use native.Mathlib.Nat.{le-div-iff-mul-le, div-mul-le-self, le-trans, min-eq-left, min-eq-right, max-eq-left, max-eq-right, sub-eq-zero-of-le, zero-div, add-mul, add-div-right, dvd-sub, dvd-of-mod-eq-zero, mod-eq-zero-of-dvd}
 use borrow.Author.Tests.{lt-ltb, le-ltb, le-leb, lt-leb, leb-false, eq-eqb, ne-eqb}
 use lib.Dec.{ltb, leb, eqb}
 use lib.ListN.{length, getElem?, length-reverse}
@@ -16,7 +16,7 @@ use Rattle.laws.specs.Draw.{gapFrontBelow, gapFrontThrough, gapBackBelow
 use Rattle.laws.proofs.Cases.{by-cases}
 use Rattle.laws.proofs.Run.{run-length, run-at, back-at, through-is}
 use Rattle.laws.proofs.Width.{sizes, canonical-no-gap}
-use Rattle.laws.proofs.Align.{pow-blocks, under-top}
+use Rattle.laws.proofs.Align.{under-top, power-whole, apart-whole}
 use lib.Pow.{pow-pos, pow-mono}
 
 append-at : (xs ys : List ℕ) (n : ℕ) → n < length xs → getElem? (xs ++ ys) n ≡ getElem? xs n
@@ -165,12 +165,6 @@ module _ (w k a b : ℕ) (v : IsWidth w) (h : k < w) (fa : a < 2 ^ 64) (fb : b <
   high-of : (x : ℕ) → signExtend w x ≡ x → half w ≤ x → firstHigh w ≤ x
   high-of x c l = by-cases (decLt x (firstHigh w)) (λ m. absurd (canonical-no-gap w v x c (l, m))) (λ m. omega arith)
 
-  whole : (x y : ℕ) → x % 2 ^ k ≡ 0 → y % 2 ^ k ≡ 0 → (y - x) / 2 ^ k * 2 ^ k ≡ y - x
-  whole x y p q = div-mul-cancel (2 ^ k) (dvd-sub (2 ^ k) (dvd-of-mod-eq-zero (2 ^ k) q) (dvd-of-mod-eq-zero (2 ^ k) p))
-
-  power-whole : (m : ℕ) → k ≤ m → 2 ^ m % 2 ^ k ≡ 0
-  power-whole m p = let e = pow-blocks k m p in let q = mul-mod-left (2 ^ m / 2 ^ k) (2 ^ k) in rw e at q
-
   pub page-ends : PageEnds w (2 ^ k) a b
   page-ends =
       let s = sizes w v in
@@ -179,8 +173,8 @@ module _ (w k a b : ℕ) (v : IsWidth w) (h : k < w) (fa : a < 2 ^ 64) (fb : b <
         high-start = high-of a ca;
         low-end = λ l. under-top k (w - 1) b (omega arith) l zb;
         high-end = high-of b cb;
-        apart = whole a b za zb;
-        above = whole (firstHigh w) b (mod-eq-zero-of-dvd (2 ^ k) (dvd-sub (2 ^ k) (dvd-of-mod-eq-zero (2 ^ k) (power-whole 64 (omega (arith, v .below)))) (dvd-of-mod-eq-zero (2 ^ k) (power-whole (w - 1) (omega arith))))) zb;
+        apart = apart-whole (2 ^ k) a b za zb;
+        above = apart-whole (2 ^ k) (firstHigh w) b (mod-eq-zero-of-dvd (2 ^ k) (dvd-sub (2 ^ k) (dvd-of-mod-eq-zero (2 ^ k) (power-whole k 64 (omega (arith, v .below)))) (dvd-of-mod-eq-zero (2 ^ k) (power-whole k (w - 1) (omega arith))))) zb;
         some = pow-pos k;
         room = pow-mono {i = k} {j = w - 1} (omega arith);
         halves = omega arith;

@@ -12,7 +12,7 @@ use lib.ListN.{length, drop, drop-of-length-le, length-reverse}
 use Rattle.laws.specs.Run.{run, lenBelow, lenThrough, below, through}
 use Rattle.laws.specs.Draw.{taken, frontBelow, backBelow, frontThrough, backThrough}
 use Rattle.laws.proofs.Cases.{by-cases}
-use Rattle.laws.proofs.Run.{run-length, front-left, back-left, through-is, steps-fit, fits-through, len-left, back-drop}
+use Rattle.laws.proofs.Run.{run-length, front-left, back-left, through-is, through-back, through-none, steps-fit, fits-through, back-drop}
 
 -- an exclusive range, from the front and from the back
 module _ (l : List ℕ) (a b s n : ℕ) (p : 0 < s) where
@@ -24,13 +24,13 @@ module _ (l : List ℕ) (a b s n : ℕ) (p : 0 < s) where
 
 -- no items
 no-items : (a b s : ℕ) → b < a → through a b s ≡ []
-unfolding run lenThrough
-no-items a b s h = rw (lt-ltb b a h)
+unfolding run
+no-items a b s h = rw (through-none a b s h)
 
 -- an inclusive range whose ends are at most `top`, the topmost item
 module _ (l : List ℕ) (a b s top n : ℕ) (p : 0 < s) (st : s ≤ top) (ha : a ≤ top) (hb : b ≤ top) where
   -- where the start would pass the top, all is drawn
-  all-front : top < a + taken (lenThrough a b s) n * s → lenThrough a b s ≤ n + 1
+  pub all-front : top < a + taken (lenThrough a b s) n * s → lenThrough a b s ≤ n + 1
   all-front h = by-cases (decLe (lenThrough a b s) (n + 1)) (λ l. l) more
     where
       more : (lenThrough a b s ≤ n + 1 → ⊥) → lenThrough a b s ≤ n + 1
@@ -47,7 +47,7 @@ module _ (l : List ℕ) (a b s top n : ℕ) (p : 0 < s) (st : s ≤ top) (ha : a
       go false e = rw (through-is (a + taken (lenThrough a b s) n * s) b s p, through-is a b s p) (front-left a (b + s) s (n + 1) p)
 
   -- where the end would pass 0, all is drawn
-  all-back : b < taken (lenThrough a b s) n * s → lenThrough a b s ≤ n + 1
+  pub all-back : b < taken (lenThrough a b s) n * s → lenThrough a b s ≤ n + 1
   all-back h = by-cases (decLe (lenThrough a b s) (n + 1)) (λ l. l) more
     where
       more : (lenThrough a b s ≤ n + 1 → ⊥) → lenThrough a b s ≤ n + 1
@@ -55,20 +55,14 @@ module _ (l : List ℕ) (a b s top n : ℕ) (p : 0 < s) (st : s ≤ top) (ha : a
           let e : min (n + 1) (lenThrough a b s) ≡ n + 1 = omega arith in
           absurd (omega (arith, rw e at h, steps-fit (n + 1) (lenThrough a b s) s (omega arith), fits-through a b s p))
 
-  below-of : (x : ℕ) → lenBelow a x s ≡ (x - a) / s
-  unfolding lenBelow
-  below-of x = refl
-
   pub back-through-left : reverse (through (backThrough l a b s n .start) (backThrough l a b s n .end) s) ≡ drop (n + 1) (reverse (through a b s))
   back-through-left = go (ltb b (taken (lenThrough a b s) n * s)) refl
     where
       fewer : taken (lenThrough a b s) n * s ≤ b → lenThrough a (b - taken (lenThrough a b s) n * s) s ≡ lenThrough a b s - (n + 1)
       fewer h =
-          let j = taken (lenThrough a b s) n in
-          let e : b - j * s + s - a ≡ b + s - a - j * s = omega arith in
-          let k : lenThrough a b s - j ≡ lenThrough a b s - (n + 1) = omega arith in
-          through-is a (b - j * s) s p ∙ below-of (b - j * s + s) ∙ ap (λ (x : ℕ). x / s) e ∙ len-left (b + s - a) s j p
-          ∙ ap (λ (x : ℕ). x - j) (sym (through-is a b s p ∙ below-of (b + s))) ∙ k
+          let k = lenThrough a b s in
+          let e : k - min (n + 1) k ≡ k - (n + 1) = omega arith in
+          through-back a b s (min (n + 1) k) p h ∙ e
 
       go : (t : Bool) → ltb b (taken (lenThrough a b s) n * s) ≡ t
           → reverse (through (cond t (a + s) a) (cond t 0 (b - taken (lenThrough a b s) n * s)) s) ≡ drop (n + 1) (reverse (through a b s))

@@ -10,5 +10,10 @@ pub mod Run
 pub mod Draw
 pub mod Gap
 pub mod Left
+pub mod After
 pub mod PagesLeft
+pub mod Kept
 pub mod Drawing
+pub mod OneByOne
+pub mod Kind
+pub mod Ranges

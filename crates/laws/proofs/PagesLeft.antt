@@ -75,18 +75,16 @@ module _ (w s a b : ℕ) (p : PageEnds w s a b) where
 
   -- inclusive ranges, whose ends are at most `top`, the topmost page
   module _ (l : List ℕ) (top n : ℕ) (ha : a ≤ top) (hb : b ≤ top) (ht : firstHigh w ≤ top) where
-    next : ℕ
+    abbrev pub next : ℕ
     next = a + taken (lenThrough a b s) n * s
 
-    next-within : next ≤ max a (b + s)
-    unfolding next
+    pub next-within : next ≤ max a (b + s)
     next-within = omega (arith, fits-through a b s (p .some), mul-le-mul-right {m = min (n + 1) (lenThrough a b s)} {n = lenThrough a b s} s (min-le-right (n + 1) (lenThrough a b s)))
 
-    moved : next ≤ top → (frontThrough l top a b s n .start ≡ next) × (frontThrough l top a b s n .end ≡ b)
-    unfolding next
+    pub moved : next ≤ top → (frontThrough l top a b s n .start ≡ next) × (frontThrough l top a b s n .end ≡ b)
     moved h = (rw (le-ltb top (a + taken (lenThrough a b s) n * s) h), rw (le-ltb top (a + taken (lenThrough a b s) n * s) h))
 
-    front-start : a ≤ frontThrough l top a b s n .start
+    pub front-start : a ≤ frontThrough l top a b s n .start
     front-start =
         by-cases (decLt top (a + taken (lenThrough a b s) n * s)) (λ h. rw (lt-ltb top (a + taken (lenThrough a b s) n * s) h) ha)
         (λ h. rw (le-ltb top (a + taken (lenThrough a b s) n * s) (omega arith)) (omega arith))
@@ -125,12 +123,12 @@ module _ (w s a b : ℕ) (p : PageEnds w s a b) where
                 let e = moved (omega (arith, next-within, p .halves, p .low-start h)) in
                 rw (through-low w s a b p (frontThrough l top a b s n .start) (frontThrough l top a b s n .end) (rw (e .1) (omega arith)), through-low w s a b p a b (omega arith)) run-front-left
 
-    back-end : backThrough l a b s n .end ≤ b
+    pub back-end : backThrough l a b s n .end ≤ b
     back-end =
         by-cases (decLt b (taken (lenThrough a b s) n * s)) (λ h. rw (lt-ltb b (taken (lenThrough a b s) n * s) h) (omega arith))
         (λ h. rw (le-ltb b (taken (lenThrough a b s) n * s) (omega arith)) (omega arith))
 
-    back-start : a ≤ backThrough l a b s n .start
+    pub back-start : a ≤ backThrough l a b s n .start
     back-start =
         by-cases (decLt b (taken (lenThrough a b s) n * s)) (λ h. rw (lt-ltb b (taken (lenThrough a b s) n * s) h) (omega arith))
         (λ h. rw (le-ltb b (taken (lenThrough a b s) n * s) (omega arith)) (omega arith))

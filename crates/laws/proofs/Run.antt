@@ -129,15 +129,41 @@ after-last zero s h = absurd (h refl)
 after-last (suc j) s h = let e : suc j - 1 ≡ j = omega arith in rw e (sym (suc-mul j s))
 
 -- ---- what is left of a range: its start moved on, or its end moved back, by the items taken
-pub front-left : (a b s m : ℕ) → 0 < s → below (a + min m (lenBelow a b s) * s) b s ≡ drop m (below a b s)
+pub below-front : (a b s j : ℕ) → 0 < s → lenBelow (a + j * s) b s ≡ lenBelow a b s - j
 unfolding lenBelow
-front-left a b s m p = ap (run (a + min m ((b - a) / s) * s) s) (rw (sub-add-eq, len-left (b - a) s (min m ((b - a) / s)) p) (omega arith)) ∙ sym (run-drop a s ((b - a) / s) m)
+below-front a b s j p = rw (sub-add-eq, len-left (b - a) s j p)
+
+pub below-back : (a b s j : ℕ) → 0 < s → lenBelow a (b - j * s) s ≡ lenBelow a b s - j
+unfolding lenBelow
+below-back a b s j p = let e : b - j * s - a ≡ b - a - j * s = omega arith in rw (e, len-left (b - a) s j p)
+
+pub through-front : (a b s j : ℕ) → 0 < s → lenThrough (a + j * s) b s ≡ lenThrough a b s - j
+through-front a b s j p = rw (through-is (a + j * s) b s p, through-is a b s p) (below-front a (b + s) s j p)
+
+pub through-back : (a b s j : ℕ) → 0 < s → j * s ≤ b → lenThrough a (b - j * s) s ≡ lenThrough a b s - j
+through-back a b s j p h =
+    let e : b - j * s + s ≡ b + s - j * s = omega arith in
+    rw (through-is a (b - j * s) s p, through-is a b s p, e) (below-back a (b + s) s j p)
+
+pub below-none : (a b s : ℕ) → b ≤ a → lenBelow a b s ≡ 0
+unfolding lenBelow
+below-none a b s h = rw (sub-eq-zero-of-le h, zero-div)
+
+pub through-none : (a b s : ℕ) → b < a → lenThrough a b s ≡ 0
+unfolding lenThrough
+through-none a b s h = rw (lt-ltb b a h)
+
+pub front-left : (a b s m : ℕ) → 0 < s → below (a + min m (lenBelow a b s) * s) b s ≡ drop m (below a b s)
+front-left a b s m p =
+    let k = lenBelow a b s in
+    let e : k - min m k ≡ k - m = omega arith in
+    ap (run (a + min m k * s) s) (below-front a b s (min m k) p ∙ e) ∙ sym (run-drop a s k m)
 
 pub back-left : (a b s m : ℕ) → 0 < s → reverse (below a (b - min m (lenBelow a b s) * s) s) ≡ drop m (reverse (below a b s))
-unfolding lenBelow
 back-left a b s m p =
-    let e : b - min m ((b - a) / s) * s - a ≡ b - a - min m ((b - a) / s) * s = omega arith in
-    ap (λ (k : ℕ). reverse (run a s k)) (rw (e, len-left (b - a) s (min m ((b - a) / s)) p) (omega arith)) ∙ sym (back-drop a s ((b - a) / s) m)
+    let k = lenBelow a b s in
+    let e : k - min m k ≡ k - m = omega arith in
+    ap (λ (x : ℕ). reverse (run a s x)) (below-back a b s (min m k) p ∙ e) ∙ sym (back-drop a s k m)
 
 -- the items drawn from the back lie between the start and the end
 pub back-within : (a b s n k j : ℕ) → k ≡ lenThrough a b s → j ≡ min (n + 1) k → (j ≡ 0 → ⊥) → a + (j - 1) * s ≤ b

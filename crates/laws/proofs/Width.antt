@@ -137,6 +137,10 @@ module _ (w : ℕ) (v : IsWidth w) where
   pub canonical-gap : (a : ℕ) → InGap w a → canonical w a ≡ false
   canonical-gap a g = ne-eqb (signExtend w a) a (λ e. canonical-no-gap a e g)
 
+  -- a number that is low or high
+  pub canonical-halves : (a : ℕ) → a < 2 ^ 64 → (half w ≤ a → 2 ^ 64 - half w ≤ a) → canonical w a ≡ true
+  canonical-halves a f h = by-cases (decLt a (half w)) (canonical-low a) (λ n. canonical-high a f (h (omega arith)))
+
   pub canonical-from : (a : ℕ) → a < 2 ^ 64 → half w ≤ a → leb (2 ^ 64 - half w) a ≡ canonical w a
   canonical-from a f h =
       by-cases (decLt a (2 ^ 64 - half w)) (λ l. lt-leb (2 ^ 64 - half w) a l ∙ sym (canonical-gap a (h, l)))

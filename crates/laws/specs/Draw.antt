@@ -21,7 +21,8 @@ taken k n = min (n + 1) k
 abbrev pub frontBelow : List ℕ → ℕ → ℕ → ℕ → ℕ → Draw
 frontBelow l a b s n = record { item = getElem? l n; start = a + taken (lenBelow a b s) n * s; end = b }
 
--- "`nth_back(n)` gives the item n places before the back one and leaves end at that item (exclusive)"
+-- "`nth_back(n)` gives the item n places before the back one and leaves end at that item (exclusive)": of ends that are whole sizes apart, as those of
+-- an accepted range are (`end-at-item` of proofs/Draw.antt)
 abbrev pub backBelow : List ℕ → ℕ → ℕ → ℕ → ℕ → Draw
 backBelow l a b s n = record { item = getElem? (reverse l) n; start = a; end = b - taken (lenBelow a b s) n * s }
 
@@ -37,6 +38,14 @@ abbrev pub backThrough : List ℕ → ℕ → ℕ → ℕ → ℕ → Draw
 backThrough l a b s n =
     let back = taken (lenThrough a b s) n * s in
     record { item = getElem? (reverse l) n; start = cond (ltb b back) (a + s) a; end = cond (ltb b back) 0 (b - back) }
+
+-- where the end after a draw would be below 0, at which a difference of numbers stops: that of `backBelow`, and that of `frontThrough` at the topmost item. The other
+-- two draws lower no end below 0.
+abbrev pub underBackBelow : ℕ → ℕ → ℕ → ℕ → Bool
+underBackBelow a b s n = ltb b (taken (lenBelow a b s) n * s)
+
+abbrev pub underFrontThrough : ℕ → ℕ → ℕ → ℕ → ℕ → Bool
+underFrontThrough top a b s n = ltb top (a + taken (lenThrough a b s) n * s) && ltb top s
 
 -- "Page draws: 10. Let d be the pages from start up to the gap and k those from 0xffff_8000_0000_0000 up to end, not counting end", at the width `w`
 abbrev pub pagesToGap : ℕ → ℕ → ℕ → ℕ

@@ -6,3 +6,4 @@ pub mod Number
 pub mod Run
 pub mod Draw
 pub mod Drawing
+pub mod Kind

@@ -17,6 +17,7 @@ use Rattle.laws.specs.Run.{below, through, lenThrough, pagesBelow, pagesThrough
 use Rattle.laws.proofs.Cases.{by-cases}
 use Rattle.laws.specs.Draw as draw
 use Rattle.laws.proofs.Width.{sign-lt, sizes}
+use Rattle.laws.proofs.Kind.{drawn-refused}
 use Rattle.laws.proofs.Align.{under-top}
 use Rattle.laws.proofs.Gap.{PageEnds, page-ends, front-below, back-below, front-through, back-through}
 use Rattle.table.specs.Level.{powerOf, bytesOf}
@@ -24,23 +25,20 @@ use Rattle.table.specs.declared.size.PageSize.{PageSize}
 use Rattle.table.proofs.Sizes.{bounds}
 use Rattle.addr.specs.Widths.{widthOf}
 use Rattle.addr.specs.Address.{virt}
-use Rattle.addr.specs.Item.{itemsRefusal, firstRefusal}
-use Rattle.addr.specs.Range.{refusedOr}
 use Rattle.addr.specs.declared.width.Width.{Width}
 use Rattle.addr.specs.declared.width.Width.the-variants.{Bits48, Bits57}
-use Rattle.addr.proofs.Item.{virt-argument, item-passed, items-passed, first-refused, refused-or}
+use Rattle.addr.proofs.Item.{virt-argument, item-passed, items-passed, first-refused}
 use Rattle.addr.proofs.Widths.{widths}
 use Rattle.page.specs.Page.{start, bytes}
-use Rattle.page.specs.Range.{pageAt, pageAnswer, topPage, refusal, drawnBelow, drawnThrough, nthOf, nthBackOf, nthInclusiveOf, nthBackInclusiveOf}
+use Rattle.page.specs.Range.{pageAt, pageAnswer, topPage, refusal, pages, drawnBelow, drawnThrough, pagesDrawn, nthOf, nthBackOf, nthInclusiveOf, nthBackInclusiveOf}
 use Rattle.page.specs.declared.page.Page.{Page}
+use Rattle.page.specs.declared.page.PageAnswer.{PageAnswer}
 use Rattle.page.specs.declared.page.PageAnswer.the-variants as page
 use Rattle.page.specs.declared.range.PageRange.{PageRange}
-use Rattle.page.specs.declared.range.PageDraw.{PageDraw}
 use Rattle.page.specs.declared.range_inclusive.PageRangeInclusive.{PageRangeInclusive}
-use Rattle.page.specs.declared.range_inclusive.PageDrawInclusive.{PageDrawInclusive}
 
 -- either width is more than the largest size
-wide : (v : Width) → 47 < widthOf v
+pub wide : (v : Width) → 47 < widthOf v
 wide Bits48 = lit< tt
 wide Bits57 = lit< tt
 
@@ -55,6 +53,7 @@ pub record Accepted (w : ℕ) (x y : Page) : Type 0 where
   pub first : start x + bytes x ≤ 2 ^ 64
   pub last : start y + bytes x ≤ 2 ^ 64
   pub whole : start x % bytes x ≡ 0
+  pub last-whole : start y % bytes x ≡ 0
   pub small : bytes x ≤ 2 ^ 30
 
 pub accepted : (v : Width) (x y : Page) → refusal (widthOf v) x y ≡ 0 → Accepted (widthOf v) x y
@@ -76,138 +75,125 @@ accepted v x y r =
       first = under-top (powerOf (x .size)) 64 (start x) (omega arith) fa (p .1);
       last = under-top (powerOf (x .size)) 64 (start y) (omega arith) fb zb;
       whole = p .1;
+      last-whole = zb;
       small = pow-mono {i = powerOf (x .size)} {j = 30} (omega arith);
     }
 
-module _ (w : ℕ) (r : PageRange) (gap : Bool) (d : draw.Draw) where
-  -- the draw's answer and the range left
-  abbrev pub settled : PageDraw
-  settled = record { answer = pageAnswer (r .start .size) (d .item); range = record { start = pageAt (r .start .size) (d .start); end = pageAt (r .end .size) (d .end) } }
+-- what a draw of a range from `x` to `y` that is not refused answers and leaves
+abbrev pub settled : {D : Type 0} → (PageAnswer → Page → Page → D) → Page → Page → draw.Draw → D
+settled made x y d = made (pageAnswer (x .size) (d .item)) (pageAt (x .size) (d .start)) (pageAt (y .size) (d .end))
 
-  refused-below : (refusal w (r .start) (r .end) ≡ 0 → ⊥) → record { answer = page.Refused (refusal w (r .start) (r .end)); range = r } ≡ drawnBelow w r gap d
-  refused-below n = rw (first-refused (refusal w (r .start) (r .end)) _ n) (sym (refused-or (refusal w (r .start) (r .end)) _ _ n))
+module _ {D : Type 0} (w : ℕ) (made : PageAnswer → Page → Page → D) (x y : Page) (gap : Bool) (d : draw.Draw) where
+  refused : (refusal w x y ≡ 0 → ⊥) → made (page.Refused (refusal w x y)) x y ≡ pagesDrawn w made x y gap d
+  refused n = rw (first-refused (refusal w x y) _ n) (drawn-refused pages made x y d (refusal w x y) n)
 
-  gap-below : refusal w (r .start) (r .end) ≡ 0 → gap ≡ true → record { answer = page.Refused 10; range = r } ≡ drawnBelow w r gap d
-  gap-below e g = simp (e, g)
+  meets-gap : refusal w x y ≡ 0 → gap ≡ true → made (page.Refused 10) x y ≡ pagesDrawn w made x y gap d
+  meets-gap e g = simp (e, g)
 
-  settled-below : refusal w (r .start) (r .end) ≡ 0 → gap ≡ false → settled ≡ drawnBelow w r gap d
-  settled-below e g = simp (e, g)
+  not-refused : refusal w x y ≡ 0 → gap ≡ false → settled made x y d ≡ pagesDrawn w made x y gap d
+  not-refused e g = simp (e, g)
 
+-- the draws on the numbers of a range from `x` to `y`, of the items `l`, and where they meet the gap
+module _ (x y : Page) (n : ℕ) where
+  abbrev pub front : (List ℕ) → draw.Draw
+  front l = draw.frontBelow l (start x) (start y) (bytes x) n
+
+  abbrev pub back : (List ℕ) → draw.Draw
+  back l = draw.backBelow l (start x) (start y) (bytes x) n
+
+  abbrev pub frontInclusive : (List ℕ) → draw.Draw
+  frontInclusive l = draw.frontThrough l (topPage (bytes x)) (start x) (start y) (bytes x) n
+
+  abbrev pub backInclusive : (List ℕ) → draw.Draw
+  backInclusive l = draw.backThrough l (start x) (start y) (bytes x) n
+
+-- the pages and the numbers of a range from `x` to `y`
+abbrev pub pagesIn : Width → Page → Page → List ℕ
+pagesIn v x y = pagesBelow (widthOf v) (start x) (start y) (bytes x)
+
+abbrev pub pagesInclusiveIn : Width → Page → Page → List ℕ
+pagesInclusiveIn v x y = pagesThrough (widthOf v) (start x) (start y) (bytes x)
+
+abbrev pub numbersIn : Page → Page → List ℕ
+numbersIn x y = below (start x) (start y) (bytes x)
+
+abbrev pub numbersInclusiveIn : Page → Page → List ℕ
+numbersInclusiveIn x y = through (start x) (start y) (bytes x)
+
+-- each draw: refused, at the gap, and answered
 module _ (v : Width) (r : PageRange) (n : ℕ) where
   abbrev frontGap : Bool
   frontGap = draw.gapFrontBelow (widthOf v) (start (r .start)) (start (r .end)) (bytes (r .start)) n
 
-  abbrev front : (List ℕ) → draw.Draw
-  front l = draw.frontBelow l (start (r .start)) (start (r .end)) (bytes (r .start)) n
-
-  abbrev frontPages : draw.Draw
-  frontPages = front (pagesBelow (widthOf v) (start (r .start)) (start (r .end)) (bytes (r .start)))
-
   pub nth-refused : (refusal (widthOf v) (r .start) (r .end) ≡ 0 → ⊥) → record { answer = page.Refused (refusal (widthOf v) (r .start) (r .end)); range = r } ≡ nthOf (widthOf v) r n
   unfolding nthOf
-  nth-refused h = refused-below (widthOf v) r frontGap frontPages h
+  nth-refused h = refused (widthOf v) drawnBelow (r .start) (r .end) frontGap (front (r .start) (r .end) n (pagesIn v (r .start) (r .end))) h
 
   pub nth-gap : refusal (widthOf v) (r .start) (r .end) ≡ 0 → frontGap ≡ true → record { answer = page.Refused 10; range = r } ≡ nthOf (widthOf v) r n
   unfolding nthOf
-  nth-gap e g = gap-below (widthOf v) r frontGap frontPages e g
+  nth-gap e g = meets-gap (widthOf v) drawnBelow (r .start) (r .end) frontGap (front (r .start) (r .end) n (pagesIn v (r .start) (r .end))) e g
 
-  -- by the pages of the range, and by its numbers alone
-  pub nth-given : refusal (widthOf v) (r .start) (r .end) ≡ 0 → frontGap ≡ false → settled (widthOf v) r false frontPages ≡ nthOf (widthOf v) r n
+  -- by the numbers of the range alone
+  pub nth-settled : refusal (widthOf v) (r .start) (r .end) ≡ 0 → frontGap ≡ false → settled drawnBelow (r .start) (r .end) (front (r .start) (r .end) n (numbersIn (r .start) (r .end))) ≡ nthOf (widthOf v) r n
   unfolding nthOf
-  nth-given e g = settled-below (widthOf v) r frontGap frontPages e g
-
-  pub nth-settled : refusal (widthOf v) (r .start) (r .end) ≡ 0 → frontGap ≡ false → settled (widthOf v) r false (front (below (start (r .start)) (start (r .end)) (bytes (r .start)))) ≡ nthOf (widthOf v) r n
-  nth-settled e g = rw (← front-below (widthOf v) (bytes (r .start)) (start (r .start)) (start (r .end)) (accepted v (r .start) (r .end) e .ends) n g) (nth-given e g)
+  nth-settled e g =
+      rw (← front-below (widthOf v) (bytes (r .start)) (start (r .start)) (start (r .end)) (accepted v (r .start) (r .end) e .ends) n g)
+      (not-refused (widthOf v) drawnBelow (r .start) (r .end) frontGap (front (r .start) (r .end) n (pagesIn v (r .start) (r .end))) e g)
 
   abbrev backGap : Bool
   backGap = draw.gapBackBelow (widthOf v) (start (r .start)) (start (r .end)) (bytes (r .start)) n
 
-  abbrev back : (List ℕ) → draw.Draw
-  back l = draw.backBelow l (start (r .start)) (start (r .end)) (bytes (r .start)) n
-
-  abbrev backPages : draw.Draw
-  backPages = back (pagesBelow (widthOf v) (start (r .start)) (start (r .end)) (bytes (r .start)))
-
   pub nth-back-refused : (refusal (widthOf v) (r .start) (r .end) ≡ 0 → ⊥) → record { answer = page.Refused (refusal (widthOf v) (r .start) (r .end)); range = r } ≡ nthBackOf (widthOf v) r n
   unfolding nthBackOf
-  nth-back-refused h = refused-below (widthOf v) r backGap backPages h
+  nth-back-refused h = refused (widthOf v) drawnBelow (r .start) (r .end) backGap (back (r .start) (r .end) n (pagesIn v (r .start) (r .end))) h
 
   pub nth-back-gap : refusal (widthOf v) (r .start) (r .end) ≡ 0 → backGap ≡ true → record { answer = page.Refused 10; range = r } ≡ nthBackOf (widthOf v) r n
   unfolding nthBackOf
-  nth-back-gap e g = gap-below (widthOf v) r backGap backPages e g
+  nth-back-gap e g = meets-gap (widthOf v) drawnBelow (r .start) (r .end) backGap (back (r .start) (r .end) n (pagesIn v (r .start) (r .end))) e g
 
-  -- by the pages of the range, and by its numbers alone
-  pub nth-back-given : refusal (widthOf v) (r .start) (r .end) ≡ 0 → backGap ≡ false → settled (widthOf v) r false backPages ≡ nthBackOf (widthOf v) r n
+  -- by the numbers of the range alone
+  pub nth-back-settled : refusal (widthOf v) (r .start) (r .end) ≡ 0 → backGap ≡ false → settled drawnBelow (r .start) (r .end) (back (r .start) (r .end) n (numbersIn (r .start) (r .end))) ≡ nthBackOf (widthOf v) r n
   unfolding nthBackOf
-  nth-back-given e g = settled-below (widthOf v) r backGap backPages e g
-
-  pub nth-back-settled : refusal (widthOf v) (r .start) (r .end) ≡ 0 → backGap ≡ false → settled (widthOf v) r false (back (below (start (r .start)) (start (r .end)) (bytes (r .start)))) ≡ nthBackOf (widthOf v) r n
-  nth-back-settled e g = rw (← back-below (widthOf v) (bytes (r .start)) (start (r .start)) (start (r .end)) (accepted v (r .start) (r .end) e .ends) n g) (nth-back-given e g)
-
-module _ (w : ℕ) (r : PageRangeInclusive) (gap : Bool) (d : draw.Draw) where
-  -- the draw's answer and the range left
-  abbrev pub settledInclusive : PageDrawInclusive
-  settledInclusive = record { answer = pageAnswer (r .start .size) (d .item); range = record { start = pageAt (r .start .size) (d .start); end = pageAt (r .end .size) (d .end) } }
-
-  refused-through : (refusal w (r .start) (r .end) ≡ 0 → ⊥) → record { answer = page.Refused (refusal w (r .start) (r .end)); range = r } ≡ drawnThrough w r gap d
-  refused-through n = rw (first-refused (refusal w (r .start) (r .end)) _ n) (sym (refused-or (refusal w (r .start) (r .end)) _ _ n))
-
-  gap-through : refusal w (r .start) (r .end) ≡ 0 → gap ≡ true → record { answer = page.Refused 10; range = r } ≡ drawnThrough w r gap d
-  gap-through e g = simp (e, g)
-
-  settled-through : refusal w (r .start) (r .end) ≡ 0 → gap ≡ false → settledInclusive ≡ drawnThrough w r gap d
-  settled-through e g = simp (e, g)
+  nth-back-settled e g =
+      rw (← back-below (widthOf v) (bytes (r .start)) (start (r .start)) (start (r .end)) (accepted v (r .start) (r .end) e .ends) n g)
+      (not-refused (widthOf v) drawnBelow (r .start) (r .end) backGap (back (r .start) (r .end) n (pagesIn v (r .start) (r .end))) e g)
 
 module _ (v : Width) (r : PageRangeInclusive) (n : ℕ) where
   abbrev frontInclusiveGap : Bool
   frontInclusiveGap = draw.gapFrontThrough (widthOf v) (start (r .start)) (start (r .end)) (bytes (r .start)) n
 
-  abbrev frontInclusive : (List ℕ) → draw.Draw
-  frontInclusive l = draw.frontThrough l (topPage (bytes (r .start))) (start (r .start)) (start (r .end)) (bytes (r .start)) n
-
-  abbrev frontInclusivePages : draw.Draw
-  frontInclusivePages = frontInclusive (pagesThrough (widthOf v) (start (r .start)) (start (r .end)) (bytes (r .start)))
-
   pub nth-inclusive-refused : (refusal (widthOf v) (r .start) (r .end) ≡ 0 → ⊥) → record { answer = page.Refused (refusal (widthOf v) (r .start) (r .end)); range = r } ≡ nthInclusiveOf (widthOf v) r n
   unfolding nthInclusiveOf
-  nth-inclusive-refused h = refused-through (widthOf v) r frontInclusiveGap frontInclusivePages h
+  nth-inclusive-refused h = refused (widthOf v) drawnThrough (r .start) (r .end) frontInclusiveGap (frontInclusive (r .start) (r .end) n (pagesInclusiveIn v (r .start) (r .end))) h
 
   pub nth-inclusive-gap : refusal (widthOf v) (r .start) (r .end) ≡ 0 → frontInclusiveGap ≡ true → record { answer = page.Refused 10; range = r } ≡ nthInclusiveOf (widthOf v) r n
   unfolding nthInclusiveOf
-  nth-inclusive-gap e g = gap-through (widthOf v) r frontInclusiveGap frontInclusivePages e g
+  nth-inclusive-gap e g = meets-gap (widthOf v) drawnThrough (r .start) (r .end) frontInclusiveGap (frontInclusive (r .start) (r .end) n (pagesInclusiveIn v (r .start) (r .end))) e g
 
-  -- by the pages of the range, and by its numbers alone
-  pub nth-inclusive-given : refusal (widthOf v) (r .start) (r .end) ≡ 0 → frontInclusiveGap ≡ false → settledInclusive (widthOf v) r false frontInclusivePages ≡ nthInclusiveOf (widthOf v) r n
+  -- by the numbers of the range alone
+  pub nth-inclusive-settled : refusal (widthOf v) (r .start) (r .end) ≡ 0 → frontInclusiveGap ≡ false → settled drawnThrough (r .start) (r .end) (frontInclusive (r .start) (r .end) n (numbersInclusiveIn (r .start) (r .end))) ≡ nthInclusiveOf (widthOf v) r n
   unfolding nthInclusiveOf
-  nth-inclusive-given e g = settled-through (widthOf v) r frontInclusiveGap frontInclusivePages e g
-
-  pub nth-inclusive-settled : refusal (widthOf v) (r .start) (r .end) ≡ 0 → frontInclusiveGap ≡ false → settledInclusive (widthOf v) r false (frontInclusive (through (start (r .start)) (start (r .end)) (bytes (r .start)))) ≡ nthInclusiveOf (widthOf v) r n
-  nth-inclusive-settled e g = rw (← front-through (widthOf v) (bytes (r .start)) (start (r .start)) (start (r .end)) (accepted v (r .start) (r .end) e .ends) n g) (nth-inclusive-given e g)
+  nth-inclusive-settled e g =
+      rw (← front-through (widthOf v) (bytes (r .start)) (start (r .start)) (start (r .end)) (accepted v (r .start) (r .end) e .ends) n g)
+      (not-refused (widthOf v) drawnThrough (r .start) (r .end) frontInclusiveGap (frontInclusive (r .start) (r .end) n (pagesInclusiveIn v (r .start) (r .end))) e g)
 
   abbrev backInclusiveGap : Bool
   backInclusiveGap = draw.gapBackThrough (widthOf v) (start (r .start)) (start (r .end)) (bytes (r .start)) n
 
-  abbrev backInclusive : (List ℕ) → draw.Draw
-  backInclusive l = draw.backThrough l (start (r .start)) (start (r .end)) (bytes (r .start)) n
-
-  abbrev backInclusivePages : draw.Draw
-  backInclusivePages = backInclusive (pagesThrough (widthOf v) (start (r .start)) (start (r .end)) (bytes (r .start)))
-
   pub nth-back-inclusive-refused : (refusal (widthOf v) (r .start) (r .end) ≡ 0 → ⊥) → record { answer = page.Refused (refusal (widthOf v) (r .start) (r .end)); range = r } ≡ nthBackInclusiveOf (widthOf v) r n
   unfolding nthBackInclusiveOf
-  nth-back-inclusive-refused h = refused-through (widthOf v) r backInclusiveGap backInclusivePages h
+  nth-back-inclusive-refused h = refused (widthOf v) drawnThrough (r .start) (r .end) backInclusiveGap (backInclusive (r .start) (r .end) n (pagesInclusiveIn v (r .start) (r .end))) h
 
   pub nth-back-inclusive-gap : refusal (widthOf v) (r .start) (r .end) ≡ 0 → backInclusiveGap ≡ true → record { answer = page.Refused 10; range = r } ≡ nthBackInclusiveOf (widthOf v) r n
   unfolding nthBackInclusiveOf
-  nth-back-inclusive-gap e g = gap-through (widthOf v) r backInclusiveGap backInclusivePages e g
+  nth-back-inclusive-gap e g = meets-gap (widthOf v) drawnThrough (r .start) (r .end) backInclusiveGap (backInclusive (r .start) (r .end) n (pagesInclusiveIn v (r .start) (r .end))) e g
 
-  -- by the pages of the range, and by its numbers alone
-  pub nth-back-inclusive-given : refusal (widthOf v) (r .start) (r .end) ≡ 0 → backInclusiveGap ≡ false → settledInclusive (widthOf v) r false backInclusivePages ≡ nthBackInclusiveOf (widthOf v) r n
+  -- by the numbers of the range alone
+  pub nth-back-inclusive-settled : refusal (widthOf v) (r .start) (r .end) ≡ 0 → backInclusiveGap ≡ false → settled drawnThrough (r .start) (r .end) (backInclusive (r .start) (r .end) n (numbersInclusiveIn (r .start) (r .end))) ≡ nthBackInclusiveOf (widthOf v) r n
   unfolding nthBackInclusiveOf
-  nth-back-inclusive-given e g = settled-through (widthOf v) r backInclusiveGap backInclusivePages e g
-
-  pub nth-back-inclusive-settled : refusal (widthOf v) (r .start) (r .end) ≡ 0 → backInclusiveGap ≡ false → settledInclusive (widthOf v) r false (backInclusive (through (start (r .start)) (start (r .end)) (bytes (r .start)))) ≡ nthBackInclusiveOf (widthOf v) r n
-  nth-back-inclusive-settled e g = rw (← back-through (widthOf v) (bytes (r .start)) (start (r .start)) (start (r .end)) (accepted v (r .start) (r .end) e .ends) n g) (nth-back-inclusive-given e g)
+  nth-back-inclusive-settled e g =
+      rw (← back-through (widthOf v) (bytes (r .start)) (start (r .start)) (start (r .end)) (accepted v (r .start) (r .end) e .ends) n g)
+      (not-refused (widthOf v) drawnThrough (r .start) (r .end) backInclusiveGap (backInclusive (r .start) (r .end) n (pagesInclusiveIn v (r .start) (r .end))) e g)
 
 -- `size` of an inclusive range: none, all of the 64-bit space, and what lies between
 module _ (a b z : ℕ) (p : 0 < z) (ha : a + z ≤ 2 ^ 64) (hb : b + z ≤ 2 ^ 64) where

@@ -1,19 +1,21 @@
 -- What the calls on ranges of pages answer, over the width `w`. A draw answers the page, none or the refusal's number, and the range left; on a refusal that is the
 -- range taken. The sentences are those of document 01, "Ranges".
-use Prim.Native.Nat.{ℕ, _-_, _^_}
+use Prim.Native.Nat.{ℕ, _-_, _^_, _≤_, _<_}
+use mathlib.Core.Path.{_≡_}
 use mathlib.Core.Bool.{Bool, cond}
 use mathlib.Core.List.{List}
 use mathlib.Core.Option.{Option, none, some}
 use lib.Dec.{eqb}
 use Rattle.answer.specs.Outcome.{Outcome, gives, refuses, unless}
 use Rattle.answer.specs.Refusal.{sizesDiffer, drawMeetsGap}
-use Rattle.laws.specs.Run.{pagesBelow, pagesThrough}
+use Rattle.laws.specs.Run.{lenBelow, lenThrough, pagesBelow, pagesThrough}
 use Rattle.laws.specs.Draw as draw
 use Rattle.laws.specs.Drawing.{Side, front, back, Drawn}
+use Rattle.laws.specs.Kind.{Kind, drawn, drawnOf}
 use Rattle.table.specs.declared.size.PageSize.{PageSize}
 use Rattle.addr.specs.Address.{virt}
 use Rattle.addr.specs.Item.{item, firstRefusal, givenItems, itemsRefusal}
-use Rattle.addr.specs.Range.{Ends, ends, refusedOr}
+use Rattle.addr.specs.Range.{Ends, ends}
 use Rattle.page.specs.Page.{start, bytes}
 use Rattle.page.specs.declared.page.Page.{Page}
 use Rattle.page.specs.declared.page.PageAnswer.{PageAnswer}
@@ -47,6 +49,12 @@ unfoldable pub pageAnswer : PageSize → Option ℕ → PageAnswer
 pageAnswer z none = page.None
 pageAnswer z (some a) = page.Page (pageAt z a)
 
+-- where the page that an answer gives starts; none where it is a refusal
+abbrev pub itemOf : PageAnswer → Option (Option ℕ)
+itemOf (page.Refused k) = none
+itemOf page.None = some none
+itemOf (page.Page p) = some (some (start p))
+
 -- the topmost page of a size
 abbrev pub topPage : ℕ → ℕ
 topPage z = 2 ^ 64 - z
@@ -55,49 +63,48 @@ topPage z = 2 ^ 64 - z
 abbrev pub refusal : ℕ → Page → Page → ℕ
 refusal w x y = itemsRefusal (virt w) (start x) (bytes x) (start y) (bytes y)
 
--- a draw of an exclusive range, by whether it meets the gap ("Page draws: 10") and by a draw on its numbers
-abbrev pub drawnBelow : ℕ → PageRange → Bool → draw.Draw → PageDraw
-drawnBelow w r gap d =
-    refusedOr (firstRefusal (refusal w (r .start) (r .end)) (cond gap drawMeetsGap 0)) (λ k. record { answer = page.Refused k; range = r }) (record {
-      answer = pageAnswer (r .start .size) (d .item);
-      range = record { start = pageAt (r .start .size) (d .start); end = pageAt (r .end .size) (d .end) };
-    })
+-- pages, as draws take them
+abbrev pub pages : Kind Page PageAnswer
+pages = record { placed = λ x. pageAt (x .size); answered = λ x. pageAnswer (x .size); refused = page.Refused; item = itemOf }
+
+-- a draw of an exclusive range and of an inclusive one: the answer and the range left
+abbrev pub drawnBelow : PageAnswer → Page → Page → PageDraw
+drawnBelow a x y = record { answer = a; range = record { start = x; end = y } }
+
+abbrev pub drawnThrough : PageAnswer → Page → Page → PageDrawInclusive
+drawnThrough a x y = record { answer = a; range = record { start = x; end = y } }
+
+-- a draw of the range from `x` to `y`, by whether it meets the gap ("Page draws: 10") and by a draw on its numbers
+abbrev pub pagesDrawn : {D : Type 0} → ℕ → (PageAnswer → Page → Page → D) → Page → Page → Bool → draw.Draw → D
+pagesDrawn w made x y gap d = drawn pages made x y (firstRefusal (refusal w x y) (cond gap drawMeetsGap 0)) d
 
 unfoldable pub nthOf : ℕ → PageRange → ℕ → PageDraw
 nthOf w r n =
     let a = start (r .start) in
     let b = start (r .end) in
     let z = bytes (r .start) in
-    drawnBelow w r (draw.gapFrontBelow w a b z n) (draw.frontBelow (pagesBelow w a b z) a b z n)
+    pagesDrawn w drawnBelow (r .start) (r .end) (draw.gapFrontBelow w a b z n) (draw.frontBelow (pagesBelow w a b z) a b z n)
 
 unfoldable pub nthBackOf : ℕ → PageRange → ℕ → PageDraw
 nthBackOf w r n =
     let a = start (r .start) in
     let b = start (r .end) in
     let z = bytes (r .start) in
-    drawnBelow w r (draw.gapBackBelow w a b z n) (draw.backBelow (pagesBelow w a b z) a b z n)
-
--- the same of an inclusive range
-abbrev pub drawnThrough : ℕ → PageRangeInclusive → Bool → draw.Draw → PageDrawInclusive
-drawnThrough w r gap d =
-    refusedOr (firstRefusal (refusal w (r .start) (r .end)) (cond gap drawMeetsGap 0)) (λ k. record { answer = page.Refused k; range = r }) (record {
-      answer = pageAnswer (r .start .size) (d .item);
-      range = record { start = pageAt (r .start .size) (d .start); end = pageAt (r .end .size) (d .end) };
-    })
+    pagesDrawn w drawnBelow (r .start) (r .end) (draw.gapBackBelow w a b z n) (draw.backBelow (pagesBelow w a b z) a b z n)
 
 unfoldable pub nthInclusiveOf : ℕ → PageRangeInclusive → ℕ → PageDrawInclusive
 nthInclusiveOf w r n =
     let a = start (r .start) in
     let b = start (r .end) in
     let z = bytes (r .start) in
-    drawnThrough w r (draw.gapFrontThrough w a b z n) (draw.frontThrough (pagesThrough w a b z) (topPage z) a b z n)
+    pagesDrawn w drawnThrough (r .start) (r .end) (draw.gapFrontThrough w a b z n) (draw.frontThrough (pagesThrough w a b z) (topPage z) a b z n)
 
 unfoldable pub nthBackInclusiveOf : ℕ → PageRangeInclusive → ℕ → PageDrawInclusive
 nthBackInclusiveOf w r n =
     let a = start (r .start) in
     let b = start (r .end) in
     let z = bytes (r .start) in
-    drawnThrough w r (draw.gapBackThrough w a b z n) (draw.backThrough (pagesThrough w a b z) a b z n)
+    pagesDrawn w drawnThrough (r .start) (r .end) (draw.gapBackThrough w a b z n) (draw.backThrough (pagesThrough w a b z) a b z n)
 
 -- where the pages of a range start
 abbrev pub pagesOf : ℕ → PageRange → List ℕ
@@ -106,17 +113,36 @@ pagesOf w r = pagesBelow w (start (r .start)) (start (r .end)) (bytes (r .start)
 abbrev pub pagesInclusiveOf : ℕ → PageRangeInclusive → List ℕ
 pagesInclusiveOf w r = pagesThrough w (start (r .start)) (start (r .end)) (bytes (r .start))
 
--- a draw as what it gives and the range left, `s`; none where it is refused
-abbrev pub drawnOf : {S : Type 0} → PageAnswer → S → Option (Drawn S)
-drawnOf (page.Refused k) s = none
-drawnOf page.None s = some (record { item = none; left = s })
-drawnOf (page.Page p) s = some (record { item = some (start p); left = s })
+-- the ranges that no call refuses; "An exclusive range is empty if start ≥ end, an inclusive one if start > end"; `len`
+abbrev pub given : ℕ → PageRange → Type 0
+given w r = refusal w (r .start) (r .end) ≡ 0
 
--- `next` and `next_back`
-abbrev pub drawFrom : ℕ → Side → PageRange → Option (Drawn PageRange)
-drawFrom w front r = drawnOf (nthOf w r 0 .answer) (nthOf w r 0 .range)
-drawFrom w back r = drawnOf (nthBackOf w r 0 .answer) (nthBackOf w r 0 .range)
+abbrev pub givenInclusive : ℕ → PageRangeInclusive → Type 0
+givenInclusive w r = refusal w (r .start) (r .end) ≡ 0
 
-abbrev pub drawInclusiveFrom : ℕ → Side → PageRangeInclusive → Option (Drawn PageRangeInclusive)
-drawInclusiveFrom w front r = drawnOf (nthInclusiveOf w r 0 .answer) (nthInclusiveOf w r 0 .range)
-drawInclusiveFrom w back r = drawnOf (nthBackInclusiveOf w r 0 .answer) (nthBackInclusiveOf w r 0 .range)
+abbrev pub empty : PageRange → Type 0
+empty r = start (r .end) ≤ start (r .start)
+
+abbrev pub emptyInclusive : PageRangeInclusive → Type 0
+emptyInclusive r = start (r .end) < start (r .start)
+
+abbrev pub len : PageRange → ℕ
+len r = lenBelow (start (r .start)) (start (r .end)) (bytes (r .start))
+
+abbrev pub lenInclusive : PageRangeInclusive → ℕ
+lenInclusive r = lenThrough (start (r .start)) (start (r .end)) (bytes (r .start))
+
+-- a draw as what it gives and leaves; "`next` and `next_back` are n = 0"
+abbrev pub nthFrom : ℕ → Side → ℕ → PageRange → Option (Drawn PageRange)
+nthFrom w front n r = drawnOf pages (nthOf w r n .answer) (nthOf w r n .range)
+nthFrom w back n r = drawnOf pages (nthBackOf w r n .answer) (nthBackOf w r n .range)
+
+abbrev pub nthInclusiveFrom : ℕ → Side → ℕ → PageRangeInclusive → Option (Drawn PageRangeInclusive)
+nthInclusiveFrom w front n r = drawnOf pages (nthInclusiveOf w r n .answer) (nthInclusiveOf w r n .range)
+nthInclusiveFrom w back n r = drawnOf pages (nthBackInclusiveOf w r n .answer) (nthBackInclusiveOf w r n .range)
+
+abbrev pub nextFrom : ℕ → Side → PageRange → Option (Drawn PageRange)
+nextFrom w side r = nthFrom w side 0 r
+
+abbrev pub nextInclusiveFrom : ℕ → Side → PageRangeInclusive → Option (Drawn PageRangeInclusive)
+nextInclusiveFrom w side r = nthInclusiveFrom w side 0 r

@@ -6,11 +6,12 @@ use addr::Width;
 use draw::Item;
 use table::PageSize;
 ghost use mathlib.Core.Path.{_≡_};
+ghost use Rattle.laws.specs.Width.{half, firstHigh};
 ghost use Rattle.laws.specs.Draw.{gapFrontBelow, gapFrontThrough, gapBackBelow, gapBackThrough};
 ghost use Rattle.table.specs.Level.{bytesOf};
 ghost use Rattle.addr.specs.Widths.{widthOf};
 ghost use Rattle.draw.specs.Draws.{itemOf};
-ghost use Rattle.page.specs.Range.{pageAt, pageAnswer};
+ghost use Rattle.page.specs.Range.{pageAt, pageAnswer, topPage};
 
 pub(crate) fn page_at(size: PageSize, start: u64) -> Page
     ensures { λ r. ⌜ r ≡ pageAt size start ⌝ }
@@ -30,15 +31,36 @@ pub(crate) fn page_answer(size: PageSize, item: Item) -> PageAnswer
     }
 }
 
+// The topmost page of a size.
+pub(crate) fn top_page(size: PageSize) -> u64
+    ensures { λ r. ⌜ r ≡ topPage (bytesOf size) ⌝ }
+{
+    u64::MAX - (size.bytes() - 1)
+}
+
+// The first number above the low half.
+fn half_of(width: Width) -> u64
+    ensures { λ r. ⌜ r ≡ half (widthOf width) ⌝ }
+{
+    width.size() / 2
+}
+
+// The first address of the high half.
+fn first_high(width: Width) -> u64
+    ensures { λ r. ⌜ r ≡ firstHigh (widthOf width) ⌝ }
+{
+    u64::MAX - (half_of(width) - 1)
+}
+
 // From the front of an exclusive range: a low start, a high end, and n reaches the last low page.
 pub(crate) fn gap_front_below(width: Width, start: u64, end: u64, size: PageSize, n: u64) -> bool
     ensures { λ r. ⌜ r ≡ gapFrontBelow (widthOf width) start end (bytesOf size) n ⌝ }
 {
-    let half = width.size() / 2;
+    let half = half_of(width);
     if half <= start {
         return false;
     }
-    if end < u64::MAX - (half - 1) {
+    if end < first_high(width) {
         return false;
     }
     let pages = size.count(half - start);
@@ -53,7 +75,7 @@ pub(crate) fn gap_front_below(width: Width, start: u64, end: u64, size: PageSize
 pub(crate) fn gap_front_through(width: Width, start: u64, end: u64, size: PageSize, n: u64) -> bool
     ensures { λ r. ⌜ r ≡ gapFrontThrough (widthOf width) start end (bytesOf size) n ⌝ }
 {
-    let half = width.size() / 2;
+    let half = half_of(width);
     if half <= start {
         return false;
     }
@@ -72,12 +94,11 @@ pub(crate) fn gap_front_through(width: Width, start: u64, end: u64, size: PageSi
 pub(crate) fn gap_back_below(width: Width, start: u64, end: u64, size: PageSize, n: u64) -> bool
     ensures { λ r. ⌜ r ≡ gapBackBelow (widthOf width) start end (bytesOf size) n ⌝ }
 {
-    let half = width.size() / 2;
-    let high = u64::MAX - (half - 1);
+    let high = first_high(width);
     if end < high {
         return false;
     }
-    if half <= start {
+    if half_of(width) <= start {
         return false;
     }
     size.count(end - high) <= n
@@ -88,8 +109,7 @@ pub(crate) fn gap_back_below(width: Width, start: u64, end: u64, size: PageSize,
 pub(crate) fn gap_back_through(width: Width, start: u64, end: u64, size: PageSize, n: u64) -> bool
     ensures { λ r. ⌜ r ≡ gapBackThrough (widthOf width) start end (bytesOf size) n ⌝ }
 {
-    let half = width.size() / 2;
-    let high = u64::MAX - (half - 1);
+    let high = first_high(width);
     if end < high {
         return false;
     }

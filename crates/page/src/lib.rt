@@ -5,6 +5,7 @@ mod page;
 mod range;
 mod range_inclusive;
 mod width;
+mod width_draws;
 
 pub use page::Page;
 pub use page::PageAnswer;

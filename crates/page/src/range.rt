@@ -1,23 +1,17 @@
 // A range of pages, without its end.
-use crate::draws::gap_back_below;
-use crate::draws::gap_front_below;
-use crate::draws::page_answer;
 use crate::draws::page_at;
 use crate::page::Page;
 use crate::page::PageAnswer;
 use crate::width::pages_refusal;
+use crate::width_draws;
 use addr::Width;
 use answer::BoolAnswer;
-use answer::DRAW_MEETS_GAP;
 use answer::SIZES_DIFFER;
 use answer::U64Answer;
-use draw::back_below;
-use draw::front_below;
 use draw::len_below;
 use table::PageSize;
 ghost use mathlib.Core.Path.{_≡_};
 ghost use Rattle.answer.specs.Answers.{u64Of, boolOf};
-ghost use Rattle.addr.specs.Widths.{widthOf};
 ghost use Rattle.addr.specs.Address.{virt};
 ghost use Rattle.addr.specs.Range.{makeRange, emptyBelow, countBelow, bytesBelow};
 ghost use Rattle.page.specs.Page.{start, start as Page·start, bytes};
@@ -52,100 +46,32 @@ impl Page {
     }
 }
 
-// At either width: the page n places from the front, and the range from just past it.
-fn draw_nth_at(width: Width, range: PageRange, n: u64) -> PageDraw
-    ensures { λ d. ⌜ d ≡ nthOf (widthOf width) range n ⌝ }
-{
-    let start = range.start;
-    let end = range.end;
-    let refused = pages_refusal(width, start, end);
-    if refused != 0 {
-        return PageDraw {
-            answer: PageAnswer::Refused(refused),
-            range,
-        };
-    }
-    let size = start.size;
-    let a = start.start_address.0;
-    let b = end.start_address.0;
-    if gap_front_below(width, a, b, size, n) {
-        return PageDraw {
-            answer: PageAnswer::Refused(DRAW_MEETS_GAP),
-            range,
-        };
-    }
-    let d = front_below(a, b, size, n);
-    let item = d.item;
-    let end_size = end.size;
-    PageDraw {
-        answer: page_answer(size, item),
-        range: PageRange {
-            start: page_at(size, d.start),
-            end: page_at(end_size, d.end),
-        },
-    }
-}
-
 // The page n places from the front, and the range from just past it.
 pub fn draw_nth(range: PageRange, n: u64) -> PageDraw
     ensures { λ d. ⌜ d ≡ nthOf 48 range n ⌝ }
 {
-    draw_nth_at(Width::Bits48, range, n)
+    width_draws::draw_nth(Width::Bits48, range, n)
 }
 
 // The same with n = 0.
 pub fn draw_next(range: PageRange) -> PageDraw
     ensures { λ d. ⌜ d ≡ nthOf 48 range 0 ⌝ }
 {
-    draw_nth_at(Width::Bits48, range, 0)
-}
-
-// At either width: the page n places from the back, and the range up to it.
-fn draw_nth_back_at(width: Width, range: PageRange, n: u64) -> PageDraw
-    ensures { λ d. ⌜ d ≡ nthBackOf (widthOf width) range n ⌝ }
-{
-    let start = range.start;
-    let end = range.end;
-    let refused = pages_refusal(width, start, end);
-    if refused != 0 {
-        return PageDraw {
-            answer: PageAnswer::Refused(refused),
-            range,
-        };
-    }
-    let size = start.size;
-    let a = start.start_address.0;
-    let b = end.start_address.0;
-    if gap_back_below(width, a, b, size, n) {
-        return PageDraw {
-            answer: PageAnswer::Refused(DRAW_MEETS_GAP),
-            range,
-        };
-    }
-    let d = back_below(a, b, size, n);
-    let item = d.item;
-    let end_size = end.size;
-    PageDraw {
-        answer: page_answer(size, item),
-        range: PageRange {
-            start: page_at(size, d.start),
-            end: page_at(end_size, d.end),
-        },
-    }
+    width_draws::draw_nth(Width::Bits48, range, 0)
 }
 
 // The page n places from the back, and the range up to it.
 pub fn draw_nth_back(range: PageRange, n: u64) -> PageDraw
     ensures { λ d. ⌜ d ≡ nthBackOf 48 range n ⌝ }
 {
-    draw_nth_back_at(Width::Bits48, range, n)
+    width_draws::draw_nth_back(Width::Bits48, range, n)
 }
 
 // The same with n = 0.
 pub fn draw_next_back(range: PageRange) -> PageDraw
     ensures { λ d. ⌜ d ≡ nthBackOf 48 range 0 ⌝ }
 {
-    draw_nth_back_at(Width::Bits48, range, 0)
+    width_draws::draw_nth_back(Width::Bits48, range, 0)
 }
 
 impl PageRange {

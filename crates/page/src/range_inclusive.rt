@@ -1,22 +1,16 @@
 // A range of pages, with its end.
-use crate::draws::gap_back_through;
-use crate::draws::gap_front_through;
-use crate::draws::page_answer;
-use crate::draws::page_at;
+use crate::draws::top_page;
 use crate::page::Page;
 use crate::page::PageAnswer;
 use crate::width::pages_refusal;
+use crate::width_draws;
 use addr::Width;
 use answer::BoolAnswer;
-use answer::DRAW_MEETS_GAP;
 use answer::OVERFLOW;
 use answer::U64Answer;
-use draw::back_through;
-use draw::front_through;
 use draw::len_through;
 ghost use mathlib.Core.Path.{_≡_};
 ghost use Rattle.answer.specs.Answers.{u64Of, boolOf};
-ghost use Rattle.addr.specs.Widths.{widthOf};
 ghost use Rattle.addr.specs.Address.{virt};
 ghost use Rattle.addr.specs.Range.{makeRange, emptyThrough, countThrough, bytesThrough};
 ghost use Rattle.page.specs.Page.{start, start as Page·start, bytes};
@@ -51,100 +45,32 @@ impl Page {
     }
 }
 
-// At either width: the page n places from the front, and the range from just past it.
-fn draw_nth_inclusive_at(width: Width, range: PageRangeInclusive, n: u64) -> PageDrawInclusive
-    ensures { λ d. ⌜ d ≡ nthInclusiveOf (widthOf width) range n ⌝ }
-{
-    let start = range.start;
-    let end = range.end;
-    let refused = pages_refusal(width, start, end);
-    if refused != 0 {
-        return PageDrawInclusive {
-            answer: PageAnswer::Refused(refused),
-            range,
-        };
-    }
-    let size = start.size;
-    let a = start.start_address.0;
-    let b = end.start_address.0;
-    if gap_front_through(width, a, b, size, n) {
-        return PageDrawInclusive {
-            answer: PageAnswer::Refused(DRAW_MEETS_GAP),
-            range,
-        };
-    }
-    let d = front_through(a, b, size, u64::MAX - (size.bytes() - 1), n);
-    let item = d.item;
-    let end_size = end.size;
-    PageDrawInclusive {
-        answer: page_answer(size, item),
-        range: PageRangeInclusive {
-            start: page_at(size, d.start),
-            end: page_at(end_size, d.end),
-        },
-    }
-}
-
 // The page n places from the front, and the range from just past it.
 pub fn draw_nth_inclusive(range: PageRangeInclusive, n: u64) -> PageDrawInclusive
     ensures { λ d. ⌜ d ≡ nthInclusiveOf 48 range n ⌝ }
 {
-    draw_nth_inclusive_at(Width::Bits48, range, n)
+    width_draws::draw_nth_inclusive(Width::Bits48, range, n)
 }
 
 // The same with n = 0.
 pub fn draw_next_inclusive(range: PageRangeInclusive) -> PageDrawInclusive
     ensures { λ d. ⌜ d ≡ nthInclusiveOf 48 range 0 ⌝ }
 {
-    draw_nth_inclusive_at(Width::Bits48, range, 0)
-}
-
-// At either width: the page n places from the back, and the range up to it.
-fn draw_nth_back_inclusive_at(width: Width, range: PageRangeInclusive, n: u64) -> PageDrawInclusive
-    ensures { λ d. ⌜ d ≡ nthBackInclusiveOf (widthOf width) range n ⌝ }
-{
-    let start = range.start;
-    let end = range.end;
-    let refused = pages_refusal(width, start, end);
-    if refused != 0 {
-        return PageDrawInclusive {
-            answer: PageAnswer::Refused(refused),
-            range,
-        };
-    }
-    let size = start.size;
-    let a = start.start_address.0;
-    let b = end.start_address.0;
-    if gap_back_through(width, a, b, size, n) {
-        return PageDrawInclusive {
-            answer: PageAnswer::Refused(DRAW_MEETS_GAP),
-            range,
-        };
-    }
-    let d = back_through(a, b, size, n);
-    let item = d.item;
-    let end_size = end.size;
-    PageDrawInclusive {
-        answer: page_answer(size, item),
-        range: PageRangeInclusive {
-            start: page_at(size, d.start),
-            end: page_at(end_size, d.end),
-        },
-    }
+    width_draws::draw_nth_inclusive(Width::Bits48, range, 0)
 }
 
 // The page n places from the back, and the range up to it.
 pub fn draw_nth_back_inclusive(range: PageRangeInclusive, n: u64) -> PageDrawInclusive
     ensures { λ d. ⌜ d ≡ nthBackInclusiveOf 48 range n ⌝ }
 {
-    draw_nth_back_inclusive_at(Width::Bits48, range, n)
+    width_draws::draw_nth_back_inclusive(Width::Bits48, range, n)
 }
 
 // The same with n = 0.
 pub fn draw_next_back_inclusive(range: PageRangeInclusive) -> PageDrawInclusive
     ensures { λ d. ⌜ d ≡ nthBackInclusiveOf 48 range 0 ⌝ }
 {
-    draw_nth_back_inclusive_at(Width::Bits48, range, 0)
+    width_draws::draw_nth_back_inclusive(Width::Bits48, range, 0)
 }
 
 impl PageRangeInclusive {
@@ -191,7 +117,7 @@ impl PageRangeInclusive {
         if b < a {
             return U64Answer::Value(0);
         }
-        if u64::MAX - (bytes - 1) <= b - a {
+        if top_page(size) <= b - a {
             return U64Answer::Refused(OVERFLOW);
         }
         U64Answer::Value(b - a + bytes)

@@ -2,6 +2,7 @@
 use mathlib.Core.Path.{sym, ap, _∙_}
 use borrow.Author.Needs.{needs}
 use Rattle.laws.specs.Draw as draw
+use Rattle.frame.specs.Range.{drawnBelow}
 use Rattle.frame.proofs.Ranges.{settled, nth-back-refused, nth-back-settled}
 use Rattle.frame.proofs.range.draw_nth_back.Statement.{statement}
 use Rattle.frame.proofs.range.draw_nth_back.Tie as tie
@@ -33,7 +34,7 @@ returns-2 c =
       c .before .before .frame-answer .ensures,
       c .before .frame-at .ensures,
       c .frame-at2 .ensures,
-    ) (ap (λ (d : draw.Draw). settled r d) (c .before .before .before .back-below .ensures) ∙ nth-back-settled r (c .before .before .before .before .before .before .before .before .args .n) (sym (c .before .before .before .before .before .frames-refusal .ensures) ∙ c .before .before .before .before .if1 .left))
+    ) (ap (λ (d : draw.Draw). settled drawnBelow (r .start) (r .end) d) (c .before .before .before .back-below .ensures) ∙ nth-back-settled r (c .before .before .before .before .before .before .before .before .args .n) (sym (c .before .before .before .before .before .frames-refusal .ensures) ∙ c .before .before .before .before .if1 .left))
 
 pub draw-nth-back-spec : {M : Type 1} → statement M
 draw-nth-back-spec =

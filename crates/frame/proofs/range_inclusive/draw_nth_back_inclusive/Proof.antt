@@ -2,7 +2,8 @@
 use mathlib.Core.Path.{sym, ap, _∙_}
 use borrow.Author.Needs.{needs}
 use Rattle.laws.specs.Draw as draw
-use Rattle.frame.proofs.Ranges.{settledInclusive, nth-back-inclusive-refused, nth-back-inclusive-settled}
+use Rattle.frame.specs.Range.{drawnThrough}
+use Rattle.frame.proofs.Ranges.{settled, nth-back-inclusive-refused, nth-back-inclusive-settled}
 use Rattle.frame.proofs.range_inclusive.draw_nth_back_inclusive.Statement.{statement}
 use Rattle.frame.proofs.range_inclusive.draw_nth_back_inclusive.Tie as tie
 
@@ -33,7 +34,7 @@ returns-2 c =
       c .before .before .frame-answer .ensures,
       c .before .frame-at .ensures,
       c .frame-at2 .ensures,
-    ) (ap (λ (d : draw.Draw). settledInclusive r d) (c .before .before .before .back-through .ensures) ∙ nth-back-inclusive-settled r (c .before .before .before .before .before .before .before .before .args .n) (sym (c .before .before .before .before .before .frames-refusal .ensures) ∙ c .before .before .before .before .if1 .left))
+    ) (ap (λ (d : draw.Draw). settled drawnThrough (r .start) (r .end) d) (c .before .before .before .back-through .ensures) ∙ nth-back-inclusive-settled r (c .before .before .before .before .before .before .before .before .args .n) (sym (c .before .before .before .before .before .frames-refusal .ensures) ∙ c .before .before .before .before .if1 .left))
 
 pub draw-nth-back-inclusive-spec : {M : Type 1} → statement M
 draw-nth-back-inclusive-spec =

@@ -1,9 +1,9 @@
 -- `draw_nth_inclusive` meets its contract.
 use mathlib.Core.Path.{sym, ap, _∙_}
-use native.Mathlib.Omega.{arith}
 use borrow.Author.Needs.{needs}
 use Rattle.laws.specs.Draw as draw
-use Rattle.frame.proofs.Ranges.{settledInclusive, nth-inclusive-refused, nth-inclusive-settled, accepted}
+use Rattle.frame.specs.Range.{drawnThrough}
+use Rattle.frame.proofs.Ranges.{settled, nth-inclusive-refused, nth-inclusive-settled}
 use Rattle.frame.proofs.range_inclusive.draw_nth_inclusive.Statement.{statement}
 use Rattle.frame.proofs.range_inclusive.draw_nth_inclusive.Tie as tie
 
@@ -15,13 +15,8 @@ returns c =
     let e = c .before .frames-refusal .ensures in
     rw e (nth-inclusive-refused (c .before .before .before .before .args .range) (c .before .before .before .before .args .n) (λ z. c .if1 .taken (e ∙ z)))
 
-bytes-requires : tie.Need-bytes-requires
-bytes-requires c κs = search needs
-
-sub-front-through : tie.Need-sub-front-through
-sub-front-through c =
-    let x = accepted (c .before .before .before .before .before .args .range .start) (c .before .before .before .before .before .args .range .end) (sym (c .before .before .frames-refusal .ensures) ∙ c .before .if1 .left) in
-    omega (arith, c .bytes .ensures)
+top-frame-requires : tie.Need-top-frame-requires
+top-frame-requires c κs = search needs
 
 front-through-requires : tie.Need-front-through-requires
 front-through-requires c κs = search needs
@@ -42,7 +37,7 @@ returns-2 c =
       c .before .before .frame-answer .ensures,
       c .before .frame-at .ensures,
       c .frame-at2 .ensures,
-    ) (ap (λ (d : draw.Draw). settledInclusive r d) ((rw (c .before .before .before .before .bytes .ensures) at (c .before .before .before .front-through .ensures))) ∙ nth-inclusive-settled r (c .before .before .before .before .before .before .before .before .before .args .n) (sym (c .before .before .before .before .before .before .frames-refusal .ensures) ∙ c .before .before .before .before .before .if1 .left))
+    ) (ap (λ (d : draw.Draw). settled drawnThrough (r .start) (r .end) d) ((rw (c .before .before .before .before .top-frame .ensures) at (c .before .before .before .front-through .ensures))) ∙ nth-inclusive-settled r (c .before .before .before .before .before .before .before .before .before .args .n) (sym (c .before .before .before .before .before .before .frames-refusal .ensures) ∙ c .before .before .before .before .before .if1 .left))
 
 pub draw-nth-inclusive-spec : {M : Type 1} → statement M
 draw-nth-inclusive-spec =
@@ -50,8 +45,7 @@ draw-nth-inclusive-spec =
     (tie.spec
     frames-refusal-requires
     returns
-    bytes-requires
-    sub-front-through
+    top-frame-requires
     front-through-requires
     frame-answer-requires
     frame-at-requires

@@ -3,50 +3,31 @@ use mathlib.Core.Path.{_≡_}
 use Prim.Native.Nat.{_-_, _/_}
 use native.Mathlib.Omega.{arith}
 use borrow.Author.Tests.{le-leb, lt-leb}
-use borrow.Author.Needs.{needs}
 use Rattle.laws.specs.Width.{firstHigh}
 use Rattle.laws.specs.Draw.{gapBackThrough}
-use Rattle.laws.proofs.Width.{sizes}
 use Rattle.table.specs.Level.{bytesOf}
 use Rattle.addr.specs.Widths.{widthOf}
-use Rattle.addr.proofs.Widths.{widths}
+use borrow.Author.Needs.{needs}
 use Rattle.page.proofs.draws.gap_back_through.Statement.{statement}
 use Rattle.page.proofs.draws.gap_back_through.Tie as tie
 
-size-requires : tie.Need-size-requires
-size-requires c κs = search needs
-
-sub-high : tie.Need-sub-high
-sub-high c =
-    let b = c .before in
-    let w = widthOf (b .args .width) in
-    let k = sizes w (widths (b .args .width)) in
-    let z = c .size .ensures in
-    omega arith
-
-sub-high-2 : tie.Need-sub-high-2
-sub-high-2 c = search needs
+first-high-requires : tie.Need-first-high-requires
+first-high-requires c κs = search needs
 
 returns : tie.Need-returns
 unfolding gapBackThrough
 returns c =
     let b = c .before .before in
-    let w = widthOf (b .args .width) in
-    let k = sizes w (widths (b .args .width)) in
-    let z = c .before .size .ensures in
-    simp (lt-leb (firstHigh w) (b .args .end) (omega arith))
+    let f = c .before .first-high .ensures in
+    simp (lt-leb (firstHigh (widthOf (b .args .width))) (b .args .end) (omega arith))
 
 returns-2 : tie.Need-returns-2
 unfolding gapBackThrough
 returns-2 c =
     let b = c .before .before .before in
     let w = widthOf (b .args .width) in
-    let k = sizes w (widths (b .args .width)) in
-    let z = c .before .before .size .ensures in
-    simp (
-      le-leb (firstHigh w) (b .args .end) (omega arith),
-      lt-leb (b .args .start) (firstHigh w) (omega arith),
-    )
+    let f = c .before .before .first-high .ensures in
+    simp (le-leb (firstHigh w) (b .args .end) (omega arith), lt-leb (b .args .start) (firstHigh w) (omega arith))
 
 count-requires : tie.Need-count-requires
 count-requires c κs = search needs
@@ -56,16 +37,10 @@ unfolding gapBackThrough
 returns-3 c =
     let b = c .before .before .before .before in
     let w = widthOf (b .args .width) in
-    let k = sizes w (widths (b .args .width)) in
-    let z = c .before .before .before .size .ensures in
-    let g : 18446744073709551615 - (c .before .before .before .size .result / 2 - 1) ≡ firstHigh w = omega arith in
-    let d : c .count .result ≡ (b .args .end - firstHigh w) / bytesOf (b .args .size) = rw g at (c .count .ensures) in
-    simp (
-      le-leb (firstHigh w) (b .args .end) (omega arith),
-      le-leb (b .args .start) (firstHigh w) (omega arith),
-    ) (rw d)
+    let f = c .before .before .before .first-high .ensures in
+    let d : c .count .result ≡ (b .args .end - firstHigh w) / bytesOf (b .args .size) = rw f at (c .count .ensures) in
+    simp (le-leb (firstHigh w) (b .args .end) (omega arith), le-leb (b .args .start) (firstHigh w) (omega arith)) (rw d)
 
 pub gap-back-through-spec : {M : Type 1} → statement M
 gap-back-through-spec =
-    tie.close
-    (tie.spec size-requires sub-high sub-high-2 returns returns-2 count-requires returns-3)
+    tie.close (tie.spec first-high-requires returns returns-2 count-requires returns-3)

@@ -3,42 +3,35 @@ use mathlib.Core.Path.{_≡_}
 use Prim.Native.Nat.{_+_, _-_, _/_}
 use native.Mathlib.Omega.{arith}
 use borrow.Author.Tests.{lt-ltb, le-ltb, le-leb, lt-leb}
-use borrow.Author.Needs.{needs}
 use Rattle.laws.specs.Width.{half, firstHigh}
 use Rattle.laws.specs.Draw.{gapFrontBelow}
-use Rattle.laws.proofs.Width.{sizes}
 use Rattle.laws.proofs.Gap.{one-more}
 use Rattle.table.specs.Level.{bytesOf}
 use Rattle.addr.specs.Widths.{widthOf}
-use Rattle.addr.proofs.Widths.{widths}
+use borrow.Author.Needs.{needs}
 use Rattle.page.proofs.draws.gap_front_below.Statement.{statement}
 use Rattle.page.proofs.draws.gap_front_below.Tie as tie
 
-size-requires : tie.Need-size-requires
-size-requires c κs = search needs
+half-of-requires : tie.Need-half-of-requires
+half-of-requires c κs = search needs
 
 returns : tie.Need-returns
 unfolding gapFrontBelow
 returns c =
     let b = c .before .before in
-    let w = widthOf (b .args .width) in
-    let k = sizes w (widths (b .args .width)) in
-    let z = c .before .size .ensures in
-    simp (le-ltb (b .args .start) (half w) (omega arith))
+    let h = c .before .half-of .ensures in
+    simp (le-ltb (b .args .start) (half (widthOf (b .args .width))) (omega arith))
 
-sub-if2 : tie.Need-sub-if2
-sub-if2 c = search needs
-
-sub-if2-2 : tie.Need-sub-if2-2
-sub-if2-2 c = search needs
+first-high-requires : tie.Need-first-high-requires
+first-high-requires c κs = search needs
 
 returns-2 : tie.Need-returns-2
 unfolding gapFrontBelow
 returns-2 c =
-    let b = c .before .before .before in
+    let b = c .before .before .before .before in
     let w = widthOf (b .args .width) in
-    let k = sizes w (widths (b .args .width)) in
-    let z = c .before .before .size .ensures in
+    let h = c .before .before .before .half-of .ensures in
+    let f = c .before .first-high .ensures in
     simp (lt-ltb (b .args .start) (half w) (omega arith), lt-leb (firstHigh w) (b .args .end) (omega arith))
 
 sub-count : tie.Need-sub-count
@@ -50,11 +43,10 @@ count-requires c κs = search needs
 returns-3 : tie.Need-returns-3
 unfolding gapFrontBelow
 returns-3 c =
-    let b = c .before .before .before .before .before in
+    let b = c .before .before .before .before .before .before in
     let w = widthOf (b .args .width) in
-    let k = sizes w (widths (b .args .width)) in
-    let z = c .before .before .before .before .size .ensures in
-    let h : c .before .before .before .before .size .result / 2 ≡ half w = omega arith in
+    let h = c .before .before .before .before .before .half-of .ensures in
+    let f = c .before .before .before .first-high .ensures in
     let d : c .before .count .result ≡ (half w - b .args .start) / bytesOf (b .args .size) = rw h at (c .before .count .ensures) in
     simp (
       lt-ltb (b .args .start) (half w) (omega arith),
@@ -68,25 +60,21 @@ sub-result c = search needs
 returns-4 : tie.Need-returns-4
 unfolding gapFrontBelow
 returns-4 c =
-    let b = c .before .before .before .before .before in
+    let b = c .before .before .before .before .before .before in
     let w = widthOf (b .args .width) in
-    let k = sizes w (widths (b .args .width)) in
-    let z = c .before .before .before .before .size .ensures in
-    let h : c .before .before .before .before .size .result / 2 ≡ half w = omega arith in
+    let h = c .before .before .before .before .before .half-of .ensures in
+    let f = c .before .before .before .first-high .ensures in
     let d : c .before .count .result ≡ (half w - b .args .start) / bytesOf (b .args .size) = rw h at (c .before .count .ensures) in
-    simp (
-      lt-ltb (b .args .start) (half w) (omega arith),
-      le-leb (firstHigh w) (b .args .end) (omega arith),
-    ) (rw d (one-more ((half w - b .args .start) / bytesOf (b .args .size)) (b .args .n) (omega arith)))
+    simp (lt-ltb (b .args .start) (half w) (omega arith), le-leb (firstHigh w) (b .args .end) (omega arith))
+    (rw d (one-more ((half w - b .args .start) / bytesOf (b .args .size)) (b .args .n) (omega arith)))
 
 pub gap-front-below-spec : {M : Type 1} → statement M
 gap-front-below-spec =
     tie.close
     (tie.spec
-    size-requires
+    half-of-requires
     returns
-    sub-if2
-    sub-if2-2
+    first-high-requires
     returns-2
     sub-count
     count-requires

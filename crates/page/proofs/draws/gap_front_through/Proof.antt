@@ -6,25 +6,22 @@ use borrow.Author.Tests.{lt-ltb, le-ltb, le-leb, lt-leb}
 use borrow.Author.Needs.{needs}
 use Rattle.laws.specs.Width.{half}
 use Rattle.laws.specs.Draw.{gapFrontThrough}
-use Rattle.laws.proofs.Width.{sizes}
 use Rattle.laws.proofs.Gap.{one-more}
 use Rattle.table.specs.Level.{bytesOf}
 use Rattle.addr.specs.Widths.{widthOf}
-use Rattle.addr.proofs.Widths.{widths}
 use Rattle.page.proofs.Ranges.{room-of}
 use Rattle.page.proofs.draws.gap_front_through.Statement.{statement}
 use Rattle.page.proofs.draws.gap_front_through.Tie as tie
 
-size-requires : tie.Need-size-requires
-size-requires c κs = search needs
+half-of-requires : tie.Need-half-of-requires
+half-of-requires c κs = search needs
 
 returns : tie.Need-returns
 unfolding gapFrontThrough
 returns c =
     let b = c .before .before in
     let w = widthOf (b .args .width) in
-    let k = sizes w (widths (b .args .width)) in
-    let z = c .before .size .ensures in
+    let h = c .before .half-of .ensures in
     simp (le-ltb (b .args .start) (half w) (omega arith))
 
 bytes-requires : tie.Need-bytes-requires
@@ -34,8 +31,7 @@ sub-if2 : tie.Need-sub-if2
 sub-if2 c =
     let b = c .before .before .before in
     let w = widthOf (b .args .width) in
-    let k = sizes w (widths (b .args .width)) in
-    let z = c .before .before .size .ensures in
+    let h = c .before .before .half-of .ensures in
     omega (arith, c .bytes .ensures, room-of (b .args .width) (b .args .size))
 
 returns-2 : tie.Need-returns-2
@@ -43,8 +39,7 @@ unfolding gapFrontThrough
 returns-2 c =
     let b = c .before .before .before .before in
     let w = widthOf (b .args .width) in
-    let k = sizes w (widths (b .args .width)) in
-    let z = c .before .before .before .size .ensures in
+    let h = c .before .before .before .half-of .ensures in
     simp (
       lt-ltb (b .args .start) (half w) (omega arith),
       lt-leb (half w - bytesOf (b .args .size)) (b .args .end) (omega (arith, c .before .bytes .ensures)),
@@ -61,9 +56,7 @@ unfolding gapFrontThrough
 returns-3 c =
     let b = c .before .before .before .before .before .before in
     let w = widthOf (b .args .width) in
-    let k = sizes w (widths (b .args .width)) in
-    let z = c .before .before .before .before .before .size .ensures in
-    let h : c .before .before .before .before .before .size .result / 2 ≡ half w = omega arith in
+    let h = c .before .before .before .before .before .half-of .ensures in
     let d : c .before .count .result ≡ (half w - b .args .start) / bytesOf (b .args .size) = rw h at (c .before .count .ensures) in
     simp (
       lt-ltb (b .args .start) (half w) (omega arith),
@@ -79,9 +72,7 @@ unfolding gapFrontThrough
 returns-4 c =
     let b = c .before .before .before .before .before .before in
     let w = widthOf (b .args .width) in
-    let k = sizes w (widths (b .args .width)) in
-    let z = c .before .before .before .before .before .size .ensures in
-    let h : c .before .before .before .before .before .size .result / 2 ≡ half w = omega arith in
+    let h = c .before .before .before .before .before .half-of .ensures in
     let d : c .before .count .result ≡ (half w - b .args .start) / bytesOf (b .args .size) = rw h at (c .before .count .ensures) in
     simp (
       lt-ltb (b .args .start) (half w) (omega arith),
@@ -92,7 +83,7 @@ pub gap-front-through-spec : {M : Type 1} → statement M
 gap-front-through-spec =
     tie.close
     (tie.spec
-    size-requires
+    half-of-requires
     returns
     bytes-requires
     sub-if2

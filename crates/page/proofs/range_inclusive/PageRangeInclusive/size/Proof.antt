@@ -1,9 +1,7 @@
 -- `PageRangeInclusive::size` meets its contract.
 use mathlib.Core.Path.{sym, _∙_}
 use native.Mathlib.Omega.{arith}
-use lib.Pow.{pow-pos}
 use borrow.Author.Needs.{needs}
-use Rattle.table.specs.Level.{powerOf}
 use Rattle.addr.proofs.Item.{virt-argument, items-refused, items-given}
 use Rattle.addr.specs.Address.{virt}
 use Rattle.addr.specs.declared.width.Width.the-variants.{Bits48}
@@ -32,33 +30,29 @@ returns-2 c =
     let g = accepted Bits48 x y p in
     bytes-none (start x) (start y) (bytes x) (g .ends .some) (g .first) (g .last) (c .if2 .taken) ∙ items-given (virt 48) (virt-argument 48) _ _ _ _ _ p
 
-sub-if3 : tie.Need-sub-if3
-sub-if3 c =
-    omega (arith, c .before .bytes .ensures, pow-pos (powerOf (c .before .before .before .before .before .before .args .self .start .size)))
-
-sub-if3-2 : tie.Need-sub-if3-2
-sub-if3-2 c = search needs
+top-page-requires : tie.Need-top-page-requires
+top-page-requires c κs = search needs
 
 returns-3 : tie.Need-returns-3
 returns-3 c =
-    let b = c .before .before .before .before .before .before .before in
+    let b = c .before .before .before .before .before .before .before .before in
     let x = b .args .self .start in
     let y = b .args .self .end in
-    let p = sym (c .before .before .before .before .pages-refusal .ensures) ∙ c .before .before .before .if1 .left in
+    let p = sym (c .before .before .before .before .before .pages-refusal .ensures) ∙ c .before .before .before .before .if1 .left in
     let g = accepted Bits48 x y p in
-    bytes-all (start x) (start y) (bytes x) (g .ends .some) (g .first) (g .last) (omega (arith, c .before .before .bytes .ensures, g .ends .some)) ∙ items-given (virt 48) (virt-argument 48) _ _ _ _ _ p
+    bytes-all (start x) (start y) (bytes x) (g .ends .some) (g .first) (g .last) (omega (arith, c .before .top-page .ensures, c .before .before .before .bytes .ensures, g .ends .some)) ∙ items-given (virt 48) (virt-argument 48) _ _ _ _ _ p
 
 add-t12 : tie.Need-add-t12
 add-t12 c = search needs
 
 returns-4 : tie.Need-returns-4
 returns-4 c =
-    let b = c .before .before .before .before .before .before .before in
+    let b = c .before .before .before .before .before .before .before .before in
     let x = b .args .self .start in
     let y = b .args .self .end in
-    let p = sym (c .before .before .before .before .pages-refusal .ensures) ∙ c .before .before .before .if1 .left in
+    let p = sym (c .before .before .before .before .before .pages-refusal .ensures) ∙ c .before .before .before .before .if1 .left in
     let g = accepted Bits48 x y p in
-    rw (c .before .before .bytes .ensures) (bytes-some (start x) (start y) (bytes x) (g .ends .some) (g .first) (g .last) (c .before .if2 .left) (omega (arith, c .before .before .bytes .ensures, g .ends .some)) (g .ends .apart) ∙ items-given (virt 48) (virt-argument 48) _ _ _ _ _ p)
+    rw (c .before .before .before .bytes .ensures) (bytes-some (start x) (start y) (bytes x) (g .ends .some) (g .first) (g .last) (c .before .before .if2 .left) (omega (arith, c .before .top-page .ensures, c .before .before .before .bytes .ensures, g .ends .some)) (g .ends .apart) ∙ items-given (virt 48) (virt-argument 48) _ _ _ _ _ p)
 
 pub size-spec : {M : Type 1} → statement M
 size-spec =
@@ -68,8 +62,7 @@ size-spec =
     returns
     bytes-requires
     returns-2
-    sub-if3
-    sub-if3-2
+    top-page-requires
     returns-3
     add-t12
     returns-4)

@@ -1,12 +1,11 @@
--- `draw_nth_back_inclusive_at` meets its contract.
+-- `draw_nth_back_inclusive` meets its contract.
 use mathlib.Core.Path.{sym, ap, _∙_}
-use mathlib.Core.Bool.{false}
 use borrow.Author.Needs.{needs}
 use Rattle.laws.specs.Draw as draw
-use Rattle.addr.specs.Widths.{widthOf}
-use Rattle.page.proofs.Ranges.{settledInclusive, nth-back-inclusive-refused, nth-back-inclusive-gap, nth-back-inclusive-settled}
-use Rattle.page.proofs.range_inclusive.draw_nth_back_inclusive_at.Statement.{statement}
-use Rattle.page.proofs.range_inclusive.draw_nth_back_inclusive_at.Tie as tie
+use Rattle.page.specs.Range.{drawnThrough}
+use Rattle.page.proofs.Ranges.{settled, nth-back-inclusive-refused, nth-back-inclusive-gap, nth-back-inclusive-settled}
+use Rattle.page.proofs.width_draws.draw_nth_back_inclusive.Statement.{statement}
+use Rattle.page.proofs.width_draws.draw_nth_back_inclusive.Tie as tie
 
 pages-refusal-requires : tie.Need-pages-refusal-requires
 pages-refusal-requires c κs = search needs
@@ -44,10 +43,10 @@ returns-3 c =
       c .before .before .page-answer .ensures,
       c .before .page-at .ensures,
       c .page-at2 .ensures,
-    ) (ap (λ (d : draw.Draw). settledInclusive (widthOf v) r false d) (c .before .before .before .back-through .ensures) ∙ nth-back-inclusive-settled v r (c .before .before .before .before .before .before .before .before .before .before .args .n) p (sym (c .before .before .before .before .before .gap-back-through .ensures) ∙ c .before .before .before .before .if2 .left))
+    ) (ap (λ (d : draw.Draw). settled drawnThrough (r .start) (r .end) d) (c .before .before .before .back-through .ensures) ∙ nth-back-inclusive-settled v r (c .before .before .before .before .before .before .before .before .before .before .args .n) p (sym (c .before .before .before .before .before .gap-back-through .ensures) ∙ c .before .before .before .before .if2 .left))
 
-pub draw-nth-back-inclusive-at-spec : {M : Type 1} → statement M
-draw-nth-back-inclusive-at-spec =
+pub draw-nth-back-inclusive-spec : {M : Type 1} → statement M
+draw-nth-back-inclusive-spec =
     tie.close
     (tie.spec
     pages-refusal-requires
