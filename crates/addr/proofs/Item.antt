@@ -9,7 +9,6 @@ use Rattle.answer.specs.Outcome.{Outcome, gives, refuses, unlessRefused}
 use Rattle.answer.specs.Refusal.{overflow, sizesDiffer}
 use Rattle.addr.specs.Address.{Addresses, virt, phys}
 use Rattle.addr.specs.Item.{item, givenItem, itemRefusal, plusItem, minusItem, givenItems, firstRefusal, itemsRefusal}
-use Rattle.addr.specs.Range.{refusedOr}
 
 -- a number that is not 0 refuses
 pub refused-unless : {A : Type 0} (k : ℕ) (o : Outcome A) → (k ≡ 0 → ⊥) → refuses k ≡ unlessRefused k o
@@ -34,10 +33,6 @@ module _ (s : Addresses) (a z : ℕ) where
 pub first-refused : (k m : ℕ) → (k ≡ 0 → ⊥) → firstRefusal k m ≡ k
 first-refused zero m h = absurd (h refl)
 first-refused (suc k) m h = refl
-
-pub refused-or : {A : Type 0} (k : ℕ) (f : ℕ → A) (d : A) → (k ≡ 0 → ⊥) → refusedOr k f d ≡ f k
-refused-or zero f d h = absurd (h refl)
-refused-or (suc k) f d h = refl
 
 -- the number for two items, by those for each: the first that is not 0
 module _ (s : Addresses) (a y b z : ℕ) where
@@ -67,11 +62,11 @@ module _ (s : Addresses) (a y b z : ℕ) where
     items-differ q d = simp (p, q, ne-eqb y z d)
 
 -- an item that passes goes on to what follows
-pub item-given : {A : Type 0} (s : Addresses) (n0 : s .argument ≡ 0 → ⊥) (a z : ℕ) (o : Outcome A) → itemRefusal s a z ≡ 0 → o ≡ givenItem s a z o
-item-given s n0 a z o r = rw r
+pub item-given : {A : Type 0} (s : Addresses) (a z : ℕ) (o : Outcome A) → itemRefusal s a z ≡ 0 → o ≡ givenItem s a z o
+item-given s a z o r = rw r
 
 -- the ways through each call on items, for pages and frames alike
-module _ (s : Addresses) (n0 : s .argument ≡ 0 → ⊥) (a z n : ℕ) (r : itemRefusal s a z ≡ 0) where
+module _ (s : Addresses) (a z n : ℕ) (r : itemRefusal s a z ≡ 0) where
   pub plus-overflow : 2 ^ 64 ≤ a + n * z → refuses overflow ≡ plusItem s a z n
   plus-overflow h = simp (r, le-ltb (a + n * z) (2 ^ 64) h)
 
@@ -91,7 +86,7 @@ module _ (s : Addresses) (n0 : s .argument ≡ 0 → ⊥) (a z n : ℕ) (r : ite
   minus-gives h t = simp (r, le-leb (n * z) a h, t)
 
 -- two items handed in
-module _ (s : Addresses) (n0 : s .argument ≡ 0 → ⊥) (a y b z : ℕ) where
+module _ (s : Addresses) (a y b z : ℕ) where
   pub items-passed : itemsRefusal s a y b z ≡ 0 → (itemRefusal s a y ≡ 0) × (itemRefusal s b z ≡ 0) × (y ≡ z)
   unfolding itemsRefusal
   items-passed r = go (itemRefusal s a y) refl (itemRefusal s b z) refl (eqb y z) refl

@@ -1,6 +1,6 @@
 -- What the calls on ranges of pages and of frames answer, beside the draws. `a` and `y` are the start and its size, `b` and `z` the end and its size.
 -- The sentences are those of document 01, "Ranges".
-use Prim.Native.Nat.{ℕ, zero, suc, _*_, _-_, _^_}
+use Prim.Native.Nat.{ℕ, _*_, _-_, _^_}
 use mathlib.Core.Bool.{Bool, true, false, cond}
 use lib.Dec.{ltb, leb, eqb}
 use Rattle.answer.specs.Outcome.{Outcome, gives, unless}
@@ -44,8 +44,3 @@ bytesThrough s a y b z =
     givenItems s a y b z
     (unless overflow (cond (eqb b (2 ^ 64 - y)) (cond (eqb a 0) false true) true)
     (gives (lenThrough a b y * y)))
-
--- what a refusal's number stands for, where there is one; else the second
-abbrev pub refusedOr : {A : Type 0} → ℕ → (ℕ → A) → A → A
-refusedOr zero f d = d
-refusedOr (suc k) f d = f (suc k)

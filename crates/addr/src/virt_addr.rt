@@ -117,7 +117,7 @@ impl Width {
         BoolAnswer::Value(rest(a, align) == 0)
     }
 
-    // The address count bytes on, with no jump over the gap; 5 beyond 64 bits, 6 if it isn't
+    // The address count bytes on, by the numbers; 5 beyond 64 bits, 6 if it isn't
     // canonical.
     pub fn add(self, addr: VirtAddr, count: u64) -> VirtAnswer
         ensures { λ r. ⌜ virtOf r ≡ plus (virt (widthOf self)) (addr .0) count ⌝ }
@@ -137,7 +137,7 @@ impl Width {
         }
     }
 
-    // The address count bytes back, with no jump over the gap; 5 below zero, 6 if it isn't
+    // The address count bytes back, by the numbers; 5 below zero, 6 if it isn't
     // canonical.
     pub fn sub(self, addr: VirtAddr, count: u64) -> VirtAnswer
         ensures { λ r. ⌜ virtOf r ≡ minus (virt (widthOf self)) (addr .0) count ⌝ }

@@ -1,6 +1,6 @@
 -- Frames drawn one by one: each of them once and in order, from either end or both, where no draw is refused; and a draw with n as n + 1 draws with n = 0.
-use Prim.Native.Nat.{ℕ, zero, suc, _+_, _-_, _%_, _^_, _≤_, _<_}
-use mathlib.Core.Path.{_≡_, refl, sym, ap, _∙_}
+use Prim.Native.Nat.{ℕ, zero, suc, _-_, _%_, _^_, _≤_, _<_}
+use mathlib.Core.Path.{_≡_, refl}
 use mathlib.Core.Bool.{Bool, false}
 use mathlib.Core.List.{reverse}
 use mathlib.Core.Option.{Option, none, some}
@@ -24,9 +24,8 @@ use Rattle.table.proofs.Sizes.{bounds}
 use Rattle.table.specs.declared.size.PageSize.{PageSize}
 use Rattle.addr.specs.Item.{firstRefusal, itemRefusal, itemsRefusal}
 use Rattle.frame.specs.Frame.{start, bytes}
-use Rattle.frame.specs.Range.{frameAt, frameAnswer, topFrame, itemOf, refusal, leavesMemory, frames, drawnBelow, drawnThrough, nthOf, nthBackOf, nthInclusiveOf, nthBackInclusiveOf, framesOf, framesInclusiveOf, given, givenInclusive, empty, emptyInclusive, len, lenInclusive, nthFrom, nthInclusiveFrom, nextFrom, nextInclusiveFrom}
+use Rattle.frame.specs.Range.{frameAt, frameAnswer, topFrame, itemOf, refusal, leavesMemory, frames, drawnBelow, drawnThrough, nthOf, nthBackOf, nthInclusiveOf, nthBackInclusiveOf, framesOf, framesInclusiveOf, accepted, acceptedInclusive, empty, emptyInclusive, len, lenInclusive, nthFrom, nthInclusiveFrom, nextFrom, nextInclusiveFrom}
 use Rattle.frame.specs.declared.frame.PhysFrame.{PhysFrame}
-use Rattle.frame.specs.declared.frame.FrameAnswer.{FrameAnswer}
 use Rattle.frame.specs.declared.range.PhysFrameRange.{PhysFrameRange}
 use Rattle.frame.specs.declared.range_inclusive.PhysFrameRangeInclusive.{PhysFrameRangeInclusive}
 use Rattle.frame.proofs.Ranges as ranges
@@ -94,7 +93,7 @@ module _ (Empty : PhysFrame → PhysFrame → Type 0) (len : ℕ → ℕ → ℕ
       record {
         no-number = λ n x y g. ranges.no-number x y (under (bytes x) (start x) (start y) n) (on (bytes x) (start x) (start y) n) g (inside x y n g);
         free = λ n x y h. first-passed (refusal x y) (leavesMemory (under (bytes x) (start x) (start y) n) (on (bytes x) (start x) (start y) n)) h;
-        given = λ n x y g. g;
+        accepted = λ n x y g. g;
         by-numbers = λ n x y g. refl;
         steps = λ x y g. let a = ranges.accepted x y g in steps (bytes x) (a .some) (omega arith);
         start-within = λ x y g. let a = ranges.accepted x y g in omega arith;
@@ -161,21 +160,21 @@ abbrev outInclusive : Side → ℕ → PhysFrameRangeInclusive → Drawn PhysFra
 outInclusive front n r = drawnAt frames rangeInclusive (r .start) (r .end) (ranges.frontInclusive (r .start) (r .end) n)
 outInclusive back n r = drawnAt frames rangeInclusive (r .start) (r .end) (ranges.backInclusive (r .start) (r .end) n)
 
-given-range : (side : Side) → Settled given empty len (λ n r. given r) (out side) (nthFrom side)
+given-range : (side : Side) → Settled accepted empty len (λ n r. accepted r) (out side) (nthFrom side)
 unfolding nthOf nthBackOf
 given-range front = settled items ends front-facts
 given-range back = settled items ends back-facts
 
-given-inclusive : (side : Side) → Settled givenInclusive emptyInclusive lenInclusive (λ n r. givenInclusive r) (outInclusive side) (nthInclusiveFrom side)
+given-inclusive : (side : Side) → Settled acceptedInclusive emptyInclusive lenInclusive (λ n r. acceptedInclusive r) (outInclusive side) (nthInclusiveFrom side)
 unfolding nthInclusiveOf nthBackInclusiveOf
 given-inclusive front = settled items endsInclusive front-inclusive-facts
 given-inclusive back = settled items endsInclusive back-inclusive-facts
 
 -- a draw with n as n + 1 draws with n = 0
-pub frames-one-by-one : OneByOne given empty len nthFrom
+pub frames-one-by-one : OneByOne accepted empty len nthFrom
 frames-one-by-one = one-by-one given-range
 
-pub frames-inclusive-one-by-one : OneByOne givenInclusive emptyInclusive lenInclusive nthInclusiveFrom
+pub frames-inclusive-one-by-one : OneByOne acceptedInclusive emptyInclusive lenInclusive nthInclusiveFrom
 frames-inclusive-one-by-one = one-by-one given-inclusive
 
 -- each frame once

@@ -1,6 +1,6 @@
 -- Draws of frames by draws on their numbers: a refused range is left as it was, and an accepted one meets no refusal 11.
-use Prim.Native.Nat.{ℕ, zero, suc, _+_, _-_, _%_, _^_, _≤_, _<_}
-use mathlib.Core.Path.{_≡_, refl, sym, ap, _∙_}
+use Prim.Native.Nat.{ℕ, _+_, _-_, _%_, _^_, _≤_, _<_}
+use mathlib.Core.Path.{_≡_, refl}
 use mathlib.Core.Bool.{Bool, false}
 use native.Mathlib.Omega.{arith}
 use native.Mathlib.Nat.{mod-eq-of-lt}
@@ -11,7 +11,7 @@ use Rattle.laws.specs.Draw as draw
 use Rattle.laws.proofs.Kind.{drawn-refused, drawn-settled}
 use Rattle.laws.proofs.Align.{under-top}
 use Rattle.laws.proofs.Draw.{front-below-start, back-below-under, front-through-under, front-through-start, front-through-end, back-through-start, back-through-end}
-use Rattle.table.specs.Level.{powerOf, bytesOf}
+use Rattle.table.specs.Level.{powerOf}
 use Rattle.table.proofs.Sizes.{bounds}
 use Rattle.addr.specs.Address.{phys}
 use Rattle.addr.specs.Item.{firstRefusal}
@@ -36,7 +36,7 @@ pub record Accepted (x y : PhysFrame) : Type 0 where
 
 pub accepted : (x y : PhysFrame) → refusal x y ≡ 0 → Accepted x y
 accepted x y r =
-    let i = items-passed (phys 52) (phys-argument 52) (start x) (bytes x) (start y) (bytes y) r in
+    let i = items-passed (phys 52) (start x) (bytes x) (start y) (bytes y) r in
     let p = item-passed (phys 52) (start x) (bytes x) (phys-argument 52) (i .0) in
     let q = item-passed (phys 52) (start y) (bytes y) (phys-argument 52) (i .1) in
     let kx = bounds (x .size) in

@@ -24,12 +24,12 @@ frameOf answer.None = none
 frameOf (answer.Refused k) = refuses k
 
 -- how many physical addresses there are
-abbrev pub addresses : ℕ
-addresses = 2 ^ 52
+abbrev pub physSize : ℕ
+physSize = 2 ^ 52
 
 -- "`try_from_pfn`: 12 exactly if number × size ≥ 2^52"
 abbrev pub fromPfn : ℕ → ℕ → Outcome Item
-fromPfn n z = unless pfnTooLarge (ltb (n * z) addresses) (gives (item (n * z) z))
+fromPfn n z = unless pfnTooLarge (ltb (n * z) physSize) (gives (item (n * z) z))
 
 -- "start / size"
 abbrev pub pfnOf : ℕ → ℕ → Outcome ℕ

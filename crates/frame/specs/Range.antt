@@ -16,7 +16,7 @@ use Rattle.table.specs.declared.size.PageSize.{PageSize}
 use Rattle.addr.specs.Address.{phys}
 use Rattle.addr.specs.Item.{item, firstRefusal, itemsRefusal}
 use Rattle.addr.specs.Range.{Ends, ends}
-use Rattle.frame.specs.Frame.{start, bytes, addresses}
+use Rattle.frame.specs.Frame.{start, bytes, physSize}
 use Rattle.frame.specs.declared.frame.PhysFrame.{PhysFrame}
 use Rattle.frame.specs.declared.frame.FrameAnswer.{FrameAnswer}
 use Rattle.frame.specs.declared.frame.FrameAnswer.the-variants as frame
@@ -53,7 +53,7 @@ itemOf (frame.Frame f) = some (some (start f))
 
 -- the topmost frame of a size
 abbrev pub topFrame : ℕ → ℕ
-topFrame z = addresses - z
+topFrame z = physSize - z
 
 -- the number that refuses two frames
 abbrev pub refusal : PhysFrame → PhysFrame → ℕ
@@ -61,7 +61,7 @@ refusal x y = itemsRefusal (phys 52) (start x) (bytes x) (start y) (bytes y)
 
 -- "Frame draws: 11 if a start or end would leave 0 to 2^52 − 1": above it, or, where `under` says so, below it
 abbrev pub leavesMemory : Bool → draw.Draw → ℕ
-leavesMemory under d = cond (under || (leb addresses (d .start) || leb addresses (d .end))) drawLeavesMemory 0
+leavesMemory under d = cond (under || (leb physSize (d .start) || leb physSize (d .end))) drawLeavesMemory 0
 
 -- frames, as draws take them
 abbrev pub frames : Kind PhysFrame FrameAnswer
@@ -114,11 +114,11 @@ abbrev pub framesInclusiveOf : PhysFrameRangeInclusive → List ℕ
 framesInclusiveOf r = through (start (r .start)) (start (r .end)) (bytes (r .start))
 
 -- the ranges that no call refuses; "An exclusive range is empty if start ≥ end, an inclusive one if start > end"; `len`
-abbrev pub given : PhysFrameRange → Type 0
-given r = refusal (r .start) (r .end) ≡ 0
+abbrev pub accepted : PhysFrameRange → Type 0
+accepted r = refusal (r .start) (r .end) ≡ 0
 
-abbrev pub givenInclusive : PhysFrameRangeInclusive → Type 0
-givenInclusive r = refusal (r .start) (r .end) ≡ 0
+abbrev pub acceptedInclusive : PhysFrameRangeInclusive → Type 0
+acceptedInclusive r = refusal (r .start) (r .end) ≡ 0
 
 abbrev pub empty : PhysFrameRange → Type 0
 empty r = start (r .end) ≤ start (r .start)

@@ -1,7 +1,7 @@
 // Frames from what is drawn on numbers.
 use crate::frame::FrameAnswer;
 use crate::frame::PhysFrame;
-use crate::frame::SIZE;
+use addr::PHYS_SIZE;
 use addr::PhysAddr;
 use draw::Item;
 use table::PageSize;
@@ -32,5 +32,5 @@ pub(crate) fn frame_answer(size: PageSize, item: Item) -> FrameAnswer
 pub(crate) fn top_frame(size: PageSize) -> u64
     ensures { λ r. ⌜ r ≡ topFrame (bytesOf size) ⌝ }
 {
-    SIZE - size.bytes()
+    PHYS_SIZE - size.bytes()
 }

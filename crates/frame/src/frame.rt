@@ -1,4 +1,5 @@
 // A physical frame.
+use addr::PHYS_SIZE;
 use addr::PhysAddr;
 use addr::PhysAnswer;
 use answer::NOT_ALIGNED;
@@ -17,9 +18,6 @@ ghost use Rattle.addr.specs.Address.{phys};
 ghost use Rattle.addr.specs.Item.{itemRefusal, itemsRefusal, fromStart, containing, startOf, sizeOf, plusItem, minusItem, distanceItem};
 ghost use Rattle.frame.specs.Frame.{start, bytes, frameOf, fromPfn, pfnOf};
 
-// How many physical addresses there are: 2^52.
-pub(crate) const SIZE: u64 = 0x10_0000_0000_0000;
-
 pub struct PhysFrame {
     pub start_address: PhysAddr,
     pub size: PageSize,
@@ -36,7 +34,7 @@ pub(crate) fn frame_refusal(frame: PhysFrame) -> u8
     ensures { λ r. ⌜ r ≡ itemRefusal (phys 52) (start frame) (bytes frame) ⌝ }
 {
     let a = frame.start_address.0;
-    if SIZE <= a {
+    if PHYS_SIZE <= a {
         return NOT_PHYSICAL;
     }
     let size = frame.size;
@@ -84,7 +82,7 @@ impl PhysFrame {
     pub fn try_from_pfn(pfn: u64, size: PageSize) -> FrameAnswer
         ensures { λ r. ⌜ frameOf r ≡ fromPfn pfn (bytesOf size) ⌝ }
     {
-        if size.count(SIZE) <= pfn {
+        if size.count(PHYS_SIZE) <= pfn {
             return FrameAnswer::Refused(PFN_TOO_LARGE);
         }
         FrameAnswer::Frame(PhysFrame {
@@ -105,7 +103,7 @@ impl PhysFrame {
         ensures { λ r. ⌜ frameOf r ≡ containing (phys 52) (address .0) (bytesOf size) ⌝ }
     {
         let a = address.0;
-        if SIZE <= a {
+        if PHYS_SIZE <= a {
             return FrameAnswer::Refused(NOT_PHYSICAL);
         }
         FrameAnswer::Frame(PhysFrame {
@@ -163,7 +161,7 @@ impl PhysFrame {
             return FrameAnswer::Refused(OVERFLOW);
         }
         let sum = a + count * size.bytes();
-        if SIZE <= sum {
+        if PHYS_SIZE <= sum {
             return FrameAnswer::Refused(RESULT_NOT_PHYSICAL);
         }
         FrameAnswer::Frame(PhysFrame {

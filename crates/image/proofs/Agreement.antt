@@ -1,19 +1,18 @@
 -- Every list of run searches from page zero on an accepted image agrees with translating its 4 KiB pages singly, at any width and number of levels that fit.
-use Prim.Native.Nat.{ℕ, _+_, _-_, _*_, _/_, _%_, _^_, _≤_, _<_}
+use Prim.Native.Nat.{ℕ, _+_, _-_, _*_, _/_, _%_, _^_, _<_}
 use mathlib.Core.Path.{_≡_, refl, sym, ap, _∙_, subst, fun-ext}
 use mathlib.Core.Bool.{true}
 use mathlib.Core.List.{List}
-use mathlib.Core.Option.{Option, some}
 use native.Mathlib.Omega.{arith}
-use native.Mathlib.Nat.{mod-lt, mod-eq-of-lt, mul-mod-left, mul-div-cancel}
+use native.Mathlib.Nat.{mod-lt, mod-eq-of-lt, mul-mod-left}
 use borrow.Author.Tests.{eq-eqb}
 use lib.Pow.{field, shl-shr, high, pow-pos, pow-add}
-use Rattle.answer.specs.Outcome.{Outcome, gives, refuses}
-use Rattle.laws.specs.Width.{IsWidth, low, signExtend}
-use Rattle.laws.specs.Number.{number, start}
-use Rattle.laws.proofs.Width.{sign-low, sign-canonical, low-lt}
+use Rattle.answer.specs.Outcome.{Outcome, gives}
+use Rattle.laws.specs.Width.{IsWidth}
+use Rattle.laws.specs.Number.{start}
+use Rattle.laws.proofs.Width.{sign-low, sign-canonical}
 use Rattle.laws.proofs.Number.{low-multiple}
-use Rattle.mapping.specs.Pages.{Rights, Reason, PageState, Space}
+use Rattle.mapping.specs.Pages.{PageState, Space}
 use Rattle.mapping.specs.Pages as page
 use Rattle.mapping.specs.Search.{Answer, search}
 use Rattle.mapping.specs.Search as answer
@@ -29,7 +28,7 @@ use Rattle.image.specs.Translate.{translated, imageRefusal, rootTable, p
 use Rattle.image.specs.Search.{Report, pageItem, frameItem, report, imagePages, searchRefusal, searching}
 use Rattle.addr.specs.declared.width.Width.the-variants.{Bits48}
 use Rattle.addr.proofs.Widths.{widths}
-use Rattle.image.specs.Agreement.{stateIn, translatedPages, IsPage, IsFrame, Reported, Reports, callFrom, RunsAgree}
+use Rattle.image.specs.Agreement.{stateIn, translatedPages, IsPage, Reported, Reports, callFrom, RunsAgree}
 
 -- the state that translation answers is the one that the walk says
 state-translated : (a : ℕ) (s : Walked) → stateIn (gives (translated a s)) ≡ stateOf s

@@ -1,6 +1,6 @@
 -- What an entry's word says, by its fields, at the physical width 52 with no-execute on.
 use Prim.Native.Nat.{ℕ, _+_, _-_, _*_, _/_, _%_, _^_, _≤_, _<_}
-use mathlib.Core.Path.{_≡_, refl, ap, _∙_}
+use mathlib.Core.Path.{_≡_, ap, _∙_}
 use mathlib.Core.Bool.{true, false, and-false}
 use native.Mathlib.Omega.{arith}
 use native.Mathlib.Nat.{mod-one, mul-one}

@@ -1,14 +1,14 @@
 -- An answer of the search by its numbers: which answer it is, by its kind.
-use Prim.Native.Nat.{ℕ, _+_, _-_, _*_, _/_, _^_, _≤_, _<_}
+use Prim.Native.Nat.{ℕ, _+_, _-_, _^_, _≤_, _<_}
 use mathlib.Core.Path.{_≡_, refl, sym, ap, _∙_, subst}
 use native.Mathlib.Omega.{arith}
 use mathlib.Core.List.{List}
-use Rattle.mapping.specs.Pages.{Rights, Reason, reserved, outside, Space}
+use Rattle.mapping.specs.Pages.{Rights, reserved, outside, Space}
 use Rattle.mapping.specs.Search.{Answer, end, stop, run, next}
-use Rattle.answer.specs.Outcome.{Outcome, gives}
+use Rattle.answer.specs.Outcome.{gives}
 use Rattle.image.specs.Packed.{rightsBits, rightsFrom}
 use Rattle.image.specs.Span.{after}
-use Rattle.image.specs.Search.{Report, report, pageItem, frameItem, imagePages}
+use Rattle.image.specs.Search.{report, pageItem, frameItem, imagePages}
 use Rattle.image.specs.Search as reports
 use Rattle.image.specs.Found.{foundOf, Kept, OfAnswer}
 use Rattle.image.specs.declared.found.Found.{Found}

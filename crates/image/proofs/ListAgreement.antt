@@ -1,21 +1,21 @@
 -- What `list` writes, in one call or in several that follow each other, is the replies of a list of searches, so that it agrees with translating the pages singly.
-use Prim.Native.Nat.{ℕ, _+_, _*_, _/_, _^_, _≤_, _<_}
+use Prim.Native.Nat.{ℕ, _+_, _*_, _^_, _≤_, _<_}
 use mathlib.Core.Path.{_≡_, refl, sym, ap, _∙_}
 use mathlib.Core.Bool.{Bool, true, false, cond}
-use mathlib.Core.List.{List, [], _∷_, _++_, map, map-append}
+use mathlib.Core.List.{List, _++_, map, map-append}
 use mathlib.Core.Option.{Option, none, some}
 use native.Mathlib.Omega.{arith}
-use native.Mathlib.Nat.{zero-div, zero-mod}
 use lib.Dec.{ltb}
 use lib.ListN.{length, length-map, take, drop}
 use lib.Seq.{take-at}
 use lib.Pow.{pow-pos}
 use borrow.Author.Tests.{ltb-true, ltb-false}
-use Rattle.answer.specs.Outcome.{Outcome, gives}
-use Rattle.laws.specs.Width.{IsWidth, signExtend}
+use Rattle.answer.specs.Outcome.{gives}
+use Rattle.laws.specs.Width.{IsWidth}
 use Rattle.laws.specs.Number.{start}
+use Rattle.laws.proofs.Width.{sign-zero}
 use Rattle.mapping.specs.Pages.{Space}
-use Rattle.mapping.specs.Search.{Answer, search, Searches, answersFrom, leftAfter}
+use Rattle.mapping.specs.Search.{Answer, Searches, answersFrom, leftAfter}
 use Rattle.mapping.specs.Search as searches
 use Rattle.mapping.specs.Agreement.{Calls}
 use Rattle.mapping.specs.Agreement as calls
@@ -24,7 +24,7 @@ use Rattle.addr.specs.Item.{Item}
 use Rattle.addr.specs.declared.width.Width.the-variants.{Bits48}
 use Rattle.addr.proofs.Widths.{widths}
 use Rattle.image.specs.Translate.{imageRefusal, rootTable}
-use Rattle.image.specs.Search.{Report, pageItem, report, imagePages}
+use Rattle.image.specs.Search.{pageItem, report, imagePages}
 use Rattle.image.specs.List.{Listed, Listing, allWords, reportsFrom, room, listedFrom, settled, listing}
 use Rattle.image.specs.Agreement.{Reports, callFrom}
 use Rattle.image.specs.ListAgreement.{Chain, one, more, Answered, ChainAgrees, ListsAgree}
@@ -45,10 +45,6 @@ left-none k n x = go (ltb n k) refl
     go : (b : Bool) → ltb n k ≡ b → cond b (some x) none ≡ none → k ≤ n
     go true t e = absurd (let z : _≡_ {A = ℕ} 0 1 = cc in omega arith)
     go false t e = ltb-false n k t
-
-first-start : (w : ℕ) → start w 4096 0 ≡ 0
-unfolding signExtend
-first-start w = simp (zero-div, zero-mod)
 
 module _ (w levels : ℕ) (v : IsWidth w) (e : w ≡ 9 * levels + 12) (image : List ℕ) (base root : ℕ) (ok : imageRefusal image base root ≡ 0) where
   abbrev pages : Space
@@ -142,8 +138,8 @@ module _ (w levels : ℕ) (v : IsWidth w) (e : w ≡ 9 * levels + 12) (image : L
 pub lists-agree : (w levels : ℕ) → IsWidth w → w ≡ 9 * levels + 12 → ListsAgree w levels
 lists-agree w levels v e image base root ok =
     let h : 0 < 2 ^ (9 * levels) = pow-pos (9 * levels) in (
-      λ out. rw (first-start w) at (answered w levels v e image base root ok 0 h out),
-      λ words left c. chain-agrees w levels v e image base root ok words left (chain-drawn w levels v e image base root ok c 0 h (sym (first-start w))),
+      λ out. rw (sign-zero w) at (answered w levels v e image base root ok 0 h out),
+      λ words left c. chain-agrees w levels v e image base root ok words left (chain-drawn w levels v e image base root ok c 0 h (sym (sign-zero w))),
     )
 
 pub lists-agree-48 : ListsAgree 48 4

@@ -7,7 +7,7 @@ use native.Mathlib.Nat.{mod-lt}
 use lib.Dec.{lit<, eqb}
 use lib.Bits.{bitAnd, bitOr, and-shr, or-shr, and-mod, or-mod}
 use Rattle.mapping.specs.Pages.{Rights, rights}
-use Rattle.mapping.specs.Walk.{joined, allRights}
+use Rattle.mapping.specs.Walk.{joined}
 use Rattle.image.specs.Entry.{set, rightsOf}
 use Rattle.image.specs.Packed.{digit, rightsBits, rightsFrom, rightsOver}
 

@@ -6,7 +6,7 @@ use mathlib.Core.Logic.{⊎-elim}
 use native.Mathlib.Omega.{arith}
 use native.Mathlib.Decide.{ℕ-discrete}
 use lib.Dec.{eqb, leb}
-use borrow.Author.Tests.{eq-eqb, ne-eqb, eqb-true, leb-true, lt-leb}
+use borrow.Author.Tests.{ne-eqb, leb-true}
 use Rattle.laws.specs.Width.{bit}
 use Rattle.laws.proofs.Bits.{same-field}
 use Rattle.laws.proofs.Cases.{by-cases}

@@ -1,7 +1,7 @@
 -- What the walk says of a page as one number, so that it travels in a register: two bits for the kind, three for the level, three for the rights, then the frame.
 use Prim.Native.Nat.{ℕ, _+_, _*_, _^_, _≤_, _<_}
 use mathlib.Core.Bool.{Bool, true, false}
-use Rattle.mapping.specs.Pages.{Rights, rights, Reason, reserved, outside}
+use Rattle.mapping.specs.Pages.{Rights, rights, reserved, outside}
 use Rattle.mapping.specs.Walk.{Walked, absent, broken, mapped}
 use Rattle.image.specs.Entry.{set}
 

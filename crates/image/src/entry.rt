@@ -1,6 +1,6 @@
 // Fields of an entry's word.
 ghost use mathlib.Core.Path.{_≡_};
-ghost use Prim.Native.Nat.{_<_, _*_, _/_, _%_, _^_};
+ghost use Prim.Native.Nat.{_<_, _/_, _%_, _^_};
 ghost use Rattle.image.specs.Entry.{set, tableAddress};
 
 // Whether bit k of the word is set.

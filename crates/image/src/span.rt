@@ -1,7 +1,7 @@
 // Spans in 4 KiB pages.
 use table::SPANS;
 ghost use mathlib.Core.Path.{_≡_};
-ghost use Prim.Native.Nat.{_^_, _*_, _<_, _≤_};
+ghost use Prim.Native.Nat.{_^_, _<_, _≤_};
 ghost use Rattle.mapping.specs.Walk.{spanPages};
 ghost use Rattle.image.specs.Span.{within, after};
 

@@ -1,17 +1,17 @@
 -- A draw after one with n = 0 gives and leaves what the draw one place further does; and what a draw leaves where there are not so many items, and where there are none.
-use Prim.Native.Nat.{ℕ, suc, _+_, _-_, _*_, _/_, _≤_, _<_, min}
+use Prim.Native.Nat.{ℕ, suc, _+_, _-_, _*_, _≤_, _<_, min}
 use mathlib.Core.Path.{_≡_, refl, sym, ap, _∙_}
 use mathlib.Core.Bool.{Bool, true, false, cond}
 use mathlib.Core.List.{List, [], _∷_, reverse}
-use mathlib.Core.Option.{Option, none, some}
+use mathlib.Core.Option.{none}
 use native.Mathlib.Omega.{arith}
 use native.Mathlib.Nat.{add-mul, zero-mul, add-zero, sub-zero}
 use native.Mathlib.Decide.{decLt}
 use borrow.Author.Tests.{ltb-true, ltb-false, lt-ltb, le-ltb}
 use lib.Dec.{ltb}
-use lib.ListN.{length, getElem?, drop}
+use lib.ListN.{getElem?, drop}
 use Rattle.laws.specs.Run.{run, lenBelow, lenThrough, below, through}
-use Rattle.laws.specs.Draw.{Draw, taken, frontBelow, backBelow, frontThrough, backThrough}
+use Rattle.laws.specs.Draw.{Draw, frontBelow, backBelow, frontThrough, backThrough}
 use Rattle.laws.proofs.Cases.{by-cases}
 use Rattle.laws.proofs.Run.{run-at, back-at, below-front, below-back, through-front, through-back, through-none}
 use Rattle.laws.proofs.Left.{all-front, all-back, front-below-left, back-below-left, front-through-left, back-through-left}

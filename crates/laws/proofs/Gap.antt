@@ -1,13 +1,13 @@
 -- The pages of a range and the run of its numbers: a draw that does not meet the gap takes the same item from both.
 use Prim.Native.Nat.{ℕ, zero, suc, _+_, _-_, _*_, _/_, _%_, _^_, _≤_, _<_, min, max}
-use mathlib.Core.Path.{_≡_, refl, sym, ap, _∙_}
+use mathlib.Core.Path.{_≡_, refl, sym, _∙_}
 use mathlib.Core.Bool.{Bool, true, false, _&&_}
 use mathlib.Core.List.{List, [], _∷_, _++_, reverse, reverse-append, append-nil}
-use mathlib.Core.Option.{Option, none, some}
+use mathlib.Core.Option.{some}
 use native.Mathlib.Omega.{arith}
 use native.Mathlib.Decide.{decLt}
 use native.Mathlib.Nat.{le-div-iff-mul-le, div-mul-le-self, le-trans, min-eq-left, min-eq-right, max-eq-left, max-eq-right, sub-eq-zero-of-le, zero-div, add-mul, add-div-right, dvd-sub, dvd-of-mod-eq-zero, mod-eq-zero-of-dvd}
-use borrow.Author.Tests.{lt-ltb, le-ltb, le-leb, lt-leb, leb-false, eq-eqb, ne-eqb}
+use borrow.Author.Tests.{lt-ltb, le-leb, lt-leb, leb-false, eq-eqb, ne-eqb}
 use lib.Dec.{ltb, leb, eqb}
 use lib.ListN.{length, getElem?, length-reverse}
 use Rattle.laws.specs.Width.{IsWidth, half, firstHigh, signExtend}

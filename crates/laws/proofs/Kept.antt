@@ -1,5 +1,5 @@
 -- What a draw leaves of an accepted range can be drawn from again: its ends are multiples of the size, and pages in their halves; it meets the gap where the whole range does.
-use Prim.Native.Nat.{ℕ, suc, _+_, _-_, _*_, _/_, _%_, _≤_, _<_, min, max}
+use Prim.Native.Nat.{ℕ, suc, _+_, _-_, _*_, _/_, _%_, _≤_, _<_, min}
 use mathlib.Core.Path.{_≡_, refl, sym, ap, _∙_}
 use mathlib.Core.Bool.{Bool, true, false, _&&_}
 use mathlib.Core.List.{List}
@@ -12,7 +12,7 @@ use Rattle.laws.specs.Width.{half, firstHigh}
 use Rattle.laws.specs.Run.{lenBelow, lenThrough}
 use Rattle.laws.specs.Draw.{Draw, taken, frontBelow, backBelow, frontThrough, backThrough, gapFrontBelow, gapFrontThrough, gapBackBelow, gapBackThrough}
 use Rattle.laws.proofs.Cases.{by-cases, and-false}
-use Rattle.laws.proofs.Run.{len-left, through-is, through-none, fits-below, fits-through}
+use Rattle.laws.proofs.Run.{len-left, through-is, through-none, fits-below}
 use Rattle.laws.proofs.PagesLeft.{moved, next-within, front-start, back-start, back-end}
 use Rattle.laws.proofs.Gap.{PageEnds, not-gap, div-le}
 

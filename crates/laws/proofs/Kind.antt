@@ -1,7 +1,7 @@
 -- Draws from ranges by their numbers, taken apart: refused, and not refused.
 use Prim.Native.Nat.{ℕ, zero, suc}
-use mathlib.Core.Path.{_≡_, refl, sym, ap, _∙_}
-use mathlib.Core.Option.{Option, none, some, Option·map}
+use mathlib.Core.Path.{_≡_, refl}
+use mathlib.Core.Option.{Option, none, some}
 use native.Mathlib.Omega.{arith}
 use Rattle.laws.specs.Draw.{Draw}
 use Rattle.laws.specs.Drawing.{Drawn}

@@ -1,15 +1,14 @@
 -- What a draw leaves: the range left stands for the items without those drawn, from the front and from the back.
-use Prim.Native.Nat.{ℕ, _+_, _-_, _*_, _/_, _≤_, _<_, min}
+use Prim.Native.Nat.{ℕ, _+_, _-_, _*_, _≤_, _<_, min}
 use mathlib.Core.Path.{_≡_, refl, sym, ap, _∙_}
 use mathlib.Core.Bool.{Bool, true, false, cond}
 use mathlib.Core.List.{List, [], reverse}
 use native.Mathlib.Omega.{arith}
-use native.Mathlib.Decide.{decLe, decLt}
-use native.Mathlib.Nat.{sub-eq-zero-of-le, zero-div}
-use borrow.Author.Tests.{ltb-true, ltb-false, lt-ltb, le-ltb}
+use native.Mathlib.Decide.{decLe}
+use borrow.Author.Tests.{ltb-true, ltb-false}
 use lib.Dec.{ltb}
-use lib.ListN.{length, drop, drop-of-length-le, length-reverse}
-use Rattle.laws.specs.Run.{run, lenBelow, lenThrough, below, through}
+use lib.ListN.{drop, drop-of-length-le, length-reverse}
+use Rattle.laws.specs.Run.{run, lenThrough, below, through}
 use Rattle.laws.specs.Draw.{taken, frontBelow, backBelow, frontThrough, backThrough}
 use Rattle.laws.proofs.Cases.{by-cases}
 use Rattle.laws.proofs.Run.{run-length, front-left, back-left, through-is, through-back, through-none, steps-fit, fits-through, back-drop}

@@ -1,7 +1,7 @@
 -- Draws of ranges of pages and of frames, by draws on their numbers: what they give and leave, one by one.
 use Prim.Native.Nat.{ℕ, suc, _≤_}
-use mathlib.Core.Path.{_≡_, refl, sym, ap, _∙_}
-use mathlib.Core.Option.{Option, none, some}
+use mathlib.Core.Path.{_≡_, ap, _∙_}
+use mathlib.Core.Option.{none, some}
 use Rattle.laws.specs.Draw.{Draw}
 use Rattle.laws.specs.Drawing.{Drawn}
 use Rattle.laws.specs.Kind.{Kind, drawn, drawnOf}

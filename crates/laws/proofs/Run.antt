@@ -3,7 +3,7 @@ use Prim.Native.Nat.{ℕ, zero, suc, _+_, _-_, _*_, _/_, _≤_, _<_, min, max}
 use mathlib.Core.Path.{_≡_, refl, sym, ap, _∙_}
 use mathlib.Core.Bool.{cond}
 use mathlib.Core.List.{List, [], _∷_, _++_, reverse, reverse-append}
-use mathlib.Core.Option.{Option, none, some}
+use mathlib.Core.Option.{none, some}
 use native.Mathlib.Omega.{arith}
 use native.Mathlib.Decide.{decLe, decLt}
 use native.Mathlib.Nat.{zero-mul, suc-mul, min-le-right, suc-min-suc, zero-min, suc-sub-suc, sub-zero, zero-sub, add-zero, add-assoc, add-comm, div-mul-le-self, sub-eq-zero-of-le, le-of-lt, div-eq-of-lt, zero-div, div-eq-sub-div, sub-add-eq, mul-le-mul-right, add-div-right, le-trans, le-of-eq, mul-le-mul-left, div-lt-iff-lt-mul}
@@ -11,7 +11,7 @@ use borrow.Author.Tests.{lt-ltb, le-ltb}
 use lib.Dec.{ltb, leb·zero, leb·suc-zero, leb·suc-suc}
 use lib.ListN.{length, getElem?, drop}
 use lib.Seq.{drop-nil}
-use Rattle.laws.specs.Run.{run, lenBelow, lenThrough, below, through}
+use Rattle.laws.specs.Run.{run, lenBelow, lenThrough, below}
 use Rattle.laws.proofs.Cases.{by-cases}
 
 pub run-length : (a s k : ℕ) → length (run a s k) ≡ k

@@ -8,7 +8,7 @@ use native.Mathlib.Nat.{mod-eq-of-lt, add-assoc}
 use borrow.Author.Tests.{lt-ltb, le-ltb, le-leb, lt-leb}
 use Rattle.answer.specs.Outcome.{gives, none, andThen}
 use Rattle.laws.specs.Width.{IsWidth, low, signExtend, InGap}
-use Rattle.laws.specs.Steps.{size, forward, backward, steps}
+use Rattle.laws.specs.Steps.{addressCount, forward, backward, steps}
 use Rattle.laws.proofs.Cases.{by-cases}
 use Rattle.laws.proofs.Width.{low-lt, sign-low, sign-by-low, low-one-to-one, canonical-no-gap}
 
@@ -16,11 +16,11 @@ module _ (w s n : ℕ) where
   -- the two cases of each
   pub forward-in : low w s + n < 2 ^ w → forward w s n ≡ gives (signExtend w (low w s + n))
   unfolding forward
-  forward-in h = simp (lt-ltb (low w s + n) (size w) (omega arith))
+  forward-in h = simp (lt-ltb (low w s + n) (addressCount w) (omega arith))
 
   pub forward-out : 2 ^ w ≤ low w s + n → forward w s n ≡ none
   unfolding forward
-  forward-out h = simp (le-ltb (low w s + n) (size w) (omega arith))
+  forward-out h = simp (le-ltb (low w s + n) (addressCount w) (omega arith))
 
   pub backward-in : n ≤ low w s → backward w s n ≡ gives (signExtend w (low w s - n))
   unfolding backward

@@ -5,7 +5,7 @@ use mathlib.Core.Bool.{true, false}
 use Prim.Native.Nat.{ℕ, zero, suc, _+_, _-_, _*_, _/_, _%_, _^_, _≤_, _<_}
 use native.Mathlib.Omega.{arith}
 use native.Mathlib.Decide.{decLt}
-use native.Mathlib.Nat.{div-eq-of-lt, div-eq-of-lt-le, mod-lt, mod-eq-of-lt, add-mul-mod-self-right, add-zero, add-suc, zero-add, zero-mul, one-mul, suc-mul, pow-suc}
+use native.Mathlib.Nat.{zero-div, zero-mod, div-eq-of-lt, div-eq-of-lt-le, mod-lt, mod-eq-of-lt, add-mul-mod-self-right, add-zero, add-suc, zero-add, zero-mul, one-mul, suc-mul, pow-suc}
 use native.Mathlib.Numerals.{add-one}
 use lib.Dec.{leb}
 use lib.Pow.{pow-pos, pow-mono, pow-add, field, high-ones, mod-pow-add}
@@ -229,3 +229,7 @@ module _ (w : ℕ) (v : IsWidth w) where
   canonical-by-bits a f =
       let i = canonical-fixed w v a in
       (λ t. bits-of a f (i .0 t), λ c. i .1 (by-bits a f c))
+
+pub sign-zero : (w : ℕ) → signExtend w 0 ≡ 0
+unfolding signExtend
+sign-zero w = simp (zero-div, zero-mod)

@@ -1,5 +1,5 @@
 -- Draws from a range, on numbers: the item drawn, and where the range starts and ends after it. The sentences are those of document 01, "Ranges".
-use Prim.Native.Nat.{ℕ, _+_, _-_, _*_, _/_, _^_, min}
+use Prim.Native.Nat.{ℕ, _+_, _-_, _*_, _/_, min}
 use mathlib.Core.Bool.{Bool, cond, _&&_}
 use mathlib.Core.List.{List, reverse}
 use mathlib.Core.Option.{Option}

@@ -40,15 +40,15 @@ pub record EachOnce {S : Type 0} (items : S → List ℕ) (draw : Side → S →
   pub to-the-end : (sides : List Side) (r : S) (d : Drawing S) → drawing draw sides r ≡ some d → length (items r) ≤ length sides → items (d .left) ≡ []
 
 -- `next`, n times: the range left; none where one of them is refused
-unfoldable pub leftAfter : {S : Type 0} → (S → Option (Drawn S)) → ℕ → S → Option S
-leftAfter next zero r = some r
-leftAfter next (suc n) r = bind (next r) (λ d. leftAfter next n (d .left))
+unfoldable pub leftByNext : {S : Type 0} → (S → Option (Drawn S)) → ℕ → S → Option S
+leftByNext next zero r = some r
+leftByNext next (suc n) r = bind (next r) (λ d. leftByNext next n (d .left))
 
 -- draws with any n by those with n = 0, which are `next` and `next_back`. `Given` are the ranges that no call refuses, `Empty` the empty ones, `len` is the range's `len`.
 pub record OneByOne {S : Type 0} (Given Empty : S → Type 0) (len : S → ℕ) (nth : Side → ℕ → S → Option (Drawn S)) : Type 0 where
   -- "A draw on an empty range is `None`, range unchanged."
   pub on-empty : (side : Side) (n : ℕ) (r : S) → Given r → Empty r → nth side n r ≡ some (record { item = none; left = r })
   -- a draw gives and leaves what `next` after n times `next` does, and is refused exactly if one of these is
-  pub as-next : (side : Side) (n : ℕ) (r : S) → nth side n r ≡ bind (leftAfter (nth side 0) n r) (nth side 0)
+  pub as-next : (side : Side) (n : ℕ) (r : S) → nth side n r ≡ bind (leftByNext (nth side 0) n r) (nth side 0)
   -- "If n ≥ `len` and no refusal applies, it is `None` and the range is left as after drawing all", which is `len` times `next`
-  pub past-all : (side : Side) (n : ℕ) (r : S) (d : Drawn S) → len r ≤ n → nth side n r ≡ some d → (d .item ≡ none) × (leftAfter (nth side 0) (len r) r ≡ some (d .left))
+  pub past-all : (side : Side) (n : ℕ) (r : S) (d : Drawn S) → len r ≤ n → nth side n r ≡ some d → (d .item ≡ none) × (leftByNext (nth side 0) (len r) r ≡ some (d .left))

@@ -1,6 +1,6 @@
 -- What a range of pages or frames stands for: numbers one size apart. `a` is the start, `b` the end, `s` the size.
 -- The sentences are those of document 01, "Ranges".
-use Prim.Native.Nat.{ℕ, zero, suc, _+_, _-_, _*_, _/_, min, max}
+use Prim.Native.Nat.{ℕ, zero, suc, _+_, _-_, _/_, min, max}
 use mathlib.Core.Bool.{cond}
 use mathlib.Core.List.{List, [], _∷_, _++_}
 use lib.Dec.{ltb}

@@ -5,12 +5,12 @@ use Rattle.answer.specs.Outcome.{Outcome, onlyIf}
 use Rattle.laws.specs.Width.{low, signExtend}
 
 -- how many addresses there are
-abbrev pub size : ℕ → ℕ
-size w = 2 ^ w
+abbrev pub addressCount : ℕ → ℕ
+addressCount w = 2 ^ w
 
 -- "`forward_checked_u64(s, n)` gives t exactly if low48(s) + n < 2^48: t canonical, low48(t) that sum."
 unfoldable pub forward : ℕ → ℕ → ℕ → Outcome ℕ
-forward w s n = onlyIf (ltb (low w s + n) (size w)) (signExtend w (low w s + n))
+forward w s n = onlyIf (ltb (low w s + n) (addressCount w)) (signExtend w (low w s + n))
 
 -- "`backward_checked_u64` gives t exactly if low48(s) ≥ n."
 unfoldable pub backward : ℕ → ℕ → ℕ → Outcome ℕ

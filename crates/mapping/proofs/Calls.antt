@@ -1,6 +1,6 @@
 -- Every list of calls of a search that reports its answer at every page agrees with the pages looked at singly, and extends to one that is over.
 use Prim.Native.Nat.{ℕ, _<_}
-use mathlib.Core.Path.{_≡_, refl}
+use mathlib.Core.Path.{_≡_}
 use mathlib.Core.List.{List, [], _∷_, _++_}
 use Rattle.mapping.specs.Pages.{Space, Spanned}
 use Rattle.mapping.specs.Search.{Answer, search, next, Searches}

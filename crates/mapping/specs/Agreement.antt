@@ -4,8 +4,8 @@ use mathlib.Core.Path.{_≡_}
 use mathlib.Core.Logic.{_⊎_}
 use mathlib.Core.List.{List, [], _∷_, _++_}
 use lib.ListN.{length, getD}
-use Rattle.mapping.specs.Pages.{Rights, Reason, PageState, absent, broken, mapped, Space, Spanned}
-use Rattle.mapping.specs.Search.{Answer, end, stop, run, search, next, Searches}
+use Rattle.mapping.specs.Pages.{Rights, Reason, PageState, absent, broken, mapped, Space}
+use Rattle.mapping.specs.Search.{Answer, end, stop, run, next}
 
 -- "It holds that many pages from the first"
 unfoldable pub InRun : Answer → ℕ → Type 0

@@ -1,6 +1,5 @@
 -- The run search over the pages of a space, and lists of searches. The sentences are those of document 01, "Translation and mapped runs".
 use Prim.Native.Nat.{ℕ, zero, suc, _+_, _-_, _<_}
-use mathlib.Core.Path.{_≡_}
 use mathlib.Core.Bool.{cond}
 use mathlib.Core.List.{List, [], _∷_}
 use lib.Dec.{ltb}

@@ -1,7 +1,7 @@
 -- The walk over tables, level by level, for any number of levels. `entry l v` is what the word `v` says in a table of level `l`; `memory a` is the 512 words of the table
 -- at the physical address `a`, none where they are not wholly inside. The sentences are those of document 01, "Translation and mapped runs".
 use Prim.Native.Nat.{ℕ, zero, suc, _+_, _-_, _*_, _/_, _%_, _^_}
-use mathlib.Core.Bool.{Bool, true, false, cond}
+use mathlib.Core.Bool.{true, false, cond}
 use mathlib.Core.List.{List}
 use mathlib.Core.Option.{Option, none, some}
 use lib.ListN.{getD}

@@ -1,6 +1,6 @@
 -- Pages drawn one by one, at either width: each of them once and in order, from either end or both, where no draw is refused; and a draw with n as n + 1 draws with n = 0.
 use Prim.Native.Nat.{ℕ, zero, suc, _+_, _-_, _%_, _^_, _≤_, _<_}
-use mathlib.Core.Path.{_≡_, refl, sym, ap, _∙_}
+use mathlib.Core.Path.{_≡_, refl, sym, _∙_}
 use mathlib.Core.Bool.{Bool, true, false, cond}
 use mathlib.Core.List.{List, reverse}
 use mathlib.Core.Option.{Option, none, some}
@@ -10,19 +10,18 @@ use borrow.Author.Tests.{eq-eqb}
 use lib.ListN.{getElem?, drop}
 use lib.Pow.{pow-mono}
 use Rattle.answer.specs.Refusal.{drawMeetsGap}
-use Rattle.laws.specs.Width.{half, firstHigh, canonical}
+use Rattle.laws.specs.Width.{half, firstHigh}
 use Rattle.laws.specs.Run.{lenBelow, lenThrough, below, through, pagesBelow, pagesThrough}
 use Rattle.laws.specs.Draw as draw
 use Rattle.laws.specs.Drawing.{Side, front, back, Drawn, EachOnce, OneByOne}
 use Rattle.laws.proofs.Width.{sizes, canonical-halves}
 use Rattle.laws.proofs.Align.{top-whole}
 use Rattle.laws.proofs.Run.{below-none, through-none}
-use Rattle.laws.proofs.Draw.{front-below-start, back-below-end, front-through-start, front-through-end, back-through-start, back-through-end}
+use Rattle.laws.proofs.Draw.{front-below-start, front-through-start, front-through-end, back-through-start, back-through-end}
 use Rattle.laws.proofs.Gap.{PageEnds, front-below, back-below, front-through, back-through}
 use Rattle.laws.proofs.After.{Stepwise, front-below-steps, back-below-steps, front-through-steps, back-through-steps}
 use Rattle.laws.proofs.Kept as kept
 use Rattle.laws.proofs.PagesLeft.{pages-front-left, pages-back-left, pages-front-through-left, pages-back-through-left}
-use Rattle.laws.proofs.Kind.{Reads}
 use Rattle.laws.proofs.Ranges.{Items, Ends, Facts, drawnAt, settled}
 use Rattle.laws.proofs.Drawing.{each-once}
 use Rattle.laws.proofs.OneByOne.{Settled, settled as settled-is, one-by-one}
@@ -34,7 +33,7 @@ use Rattle.addr.specs.Item.{firstRefusal, itemRefusal, itemsRefusal}
 use Rattle.addr.specs.declared.width.Width.{Width}
 use Rattle.addr.proofs.Widths.{widths}
 use Rattle.page.specs.Page.{start, bytes}
-use Rattle.page.specs.Range.{pageAt, pageAnswer, itemOf, topPage, refusal, pages, drawnBelow, drawnThrough, nthOf, nthBackOf, nthInclusiveOf, nthBackInclusiveOf, pagesOf, pagesInclusiveOf, given, givenInclusive, empty, emptyInclusive, len, lenInclusive, nthFrom, nthInclusiveFrom, nextFrom, nextInclusiveFrom}
+use Rattle.page.specs.Range.{pageAt, pageAnswer, itemOf, topPage, refusal, pages, drawnBelow, drawnThrough, nthOf, nthBackOf, nthInclusiveOf, nthBackInclusiveOf, pagesOf, pagesInclusiveOf, accepted, acceptedInclusive, empty, emptyInclusive, len, lenInclusive, nthFrom, nthInclusiveFrom, nextFrom, nextInclusiveFrom}
 use Rattle.page.specs.declared.page.Page.{Page}
 use Rattle.page.specs.declared.range.PageRange.{PageRange}
 use Rattle.page.specs.declared.range_inclusive.PageRangeInclusive.{PageRangeInclusive}
@@ -195,7 +194,7 @@ module _ (v : Width) (Empty : Page → Page → Type 0) (len : ℕ → ℕ → �
       record {
         no-number = λ n x y f. let (g, h) = f in simp (g, h);
         free = λ n x y h. passed (refusal (widthOf v) x y) (gap (widthOf v) (start x) (start y) (bytes x) n) h;
-        given = λ n x y f. f .0;
+        accepted = λ n x y f. f .0;
         by-numbers = λ n x y f. same x y n (ranges.accepted v x y (f .0) .ends) (f .1);
         steps = λ x y g. let a = ranges.accepted v x y g in steps (bytes x) (a .ends .some) (omega (arith, a .small));
         start-within = λ x y g. let a = ranges.accepted v x y g in omega (arith, a .first);
@@ -300,21 +299,21 @@ abbrev freeInclusive : ℕ → Side → ℕ → PageRangeInclusive → Type 0
 freeInclusive w front n r = Free w draw.gapFrontThrough n (r .start) (r .end)
 freeInclusive w back n r = Free w draw.gapBackThrough n (r .start) (r .end)
 
-given-range : (v : Width) (side : Side) → Settled (given (widthOf v)) empty len (free (widthOf v) side) (out side) (nthFrom (widthOf v) side)
+given-range : (v : Width) (side : Side) → Settled (accepted (widthOf v)) empty len (free (widthOf v) side) (out side) (nthFrom (widthOf v) side)
 unfolding nthOf nthBackOf
 given-range v front = settled items ends (front-facts v)
 given-range v back = settled items ends (back-facts v)
 
-given-inclusive : (v : Width) (side : Side) → Settled (givenInclusive (widthOf v)) emptyInclusive lenInclusive (freeInclusive (widthOf v) side) (outInclusive side) (nthInclusiveFrom (widthOf v) side)
+given-inclusive : (v : Width) (side : Side) → Settled (acceptedInclusive (widthOf v)) emptyInclusive lenInclusive (freeInclusive (widthOf v) side) (outInclusive side) (nthInclusiveFrom (widthOf v) side)
 unfolding nthInclusiveOf nthBackInclusiveOf
 given-inclusive v front = settled items endsInclusive (front-inclusive-facts v)
 given-inclusive v back = settled items endsInclusive (back-inclusive-facts v)
 
 -- a draw with n as n + 1 draws with n = 0
-pub pages-one-by-one : (v : Width) → OneByOne (given (widthOf v)) empty len (nthFrom (widthOf v))
+pub pages-one-by-one : (v : Width) → OneByOne (accepted (widthOf v)) empty len (nthFrom (widthOf v))
 pages-one-by-one v = one-by-one (given-range v)
 
-pub pages-inclusive-one-by-one : (v : Width) → OneByOne (givenInclusive (widthOf v)) emptyInclusive lenInclusive (nthInclusiveFrom (widthOf v))
+pub pages-inclusive-one-by-one : (v : Width) → OneByOne (acceptedInclusive (widthOf v)) emptyInclusive lenInclusive (nthInclusiveFrom (widthOf v))
 pages-inclusive-one-by-one v = one-by-one (given-inclusive v)
 
 -- each page once

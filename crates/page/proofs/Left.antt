@@ -1,12 +1,12 @@
 -- What a draw of pages leaves, where it does not meet the gap: the range left stands for the pages without those drawn, counted from the end they are drawn from.
-use Prim.Native.Nat.{ℕ, _+_, _-_, _^_, _≤_}
+use Prim.Native.Nat.{ℕ, _+_, _-_, _≤_}
 use mathlib.Core.Path.{_≡_, ap, _∙_}
 use mathlib.Core.Bool.{false}
 use mathlib.Core.List.{List, reverse}
 use mathlib.Core.Option.{Option, none, some}
 use native.Mathlib.Omega.{arith}
 use lib.ListN.{getElem?, drop}
-use Rattle.laws.specs.Width.{half, firstHigh}
+use Rattle.laws.specs.Width.{firstHigh}
 use Rattle.laws.specs.Run.{below, through}
 use Rattle.laws.specs.Draw.{gapFrontBelow, gapFrontThrough, gapBackBelow, gapBackThrough}
 use Rattle.laws.proofs.Width.{sizes}

@@ -1,7 +1,7 @@
 -- Draws of pages by draws on their numbers: a refused range is left as it was, and so is one whose draw meets the gap; otherwise the item drawn is the one that stands there
 -- among the range's pages.
-use Prim.Native.Nat.{ℕ, zero, suc, _+_, _-_, _*_, _/_, _%_, _^_, _≤_, _<_}
-use mathlib.Core.Path.{_≡_, refl, sym, ap, _∙_}
+use Prim.Native.Nat.{ℕ, _+_, _-_, _*_, _/_, _%_, _^_, _≤_, _<_}
+use mathlib.Core.Path.{_≡_, _∙_}
 use mathlib.Core.Bool.{Bool, true, false, cond}
 use mathlib.Core.List.{List}
 use native.Mathlib.Omega.{arith}
@@ -9,14 +9,14 @@ use native.Mathlib.Decide.{ℕ-discrete}
 use native.Mathlib.Nat.{zero-mul, add-mul}
 use borrow.Author.Tests.{eqb-true, eq-eqb, ne-eqb, lt-ltb, le-ltb}
 use lib.Dec.{lit<, eqb}
-use lib.Pow.{pow-pos, pow-mono}
-use Rattle.laws.specs.Width.{half, firstHigh, signExtend}
+use lib.Pow.{pow-mono}
+use Rattle.laws.specs.Width.{half, signExtend}
 use Rattle.answer.specs.Outcome.{Outcome, gives, refuses, unless}
 use Rattle.answer.specs.Refusal.{overflow}
 use Rattle.laws.specs.Run.{below, through, lenThrough, pagesBelow, pagesThrough}
 use Rattle.laws.proofs.Cases.{by-cases}
 use Rattle.laws.specs.Draw as draw
-use Rattle.laws.proofs.Width.{sign-lt, sizes}
+use Rattle.laws.proofs.Width.{sign-lt}
 use Rattle.laws.proofs.Kind.{drawn-refused}
 use Rattle.laws.proofs.Align.{under-top}
 use Rattle.laws.proofs.Gap.{PageEnds, page-ends, front-below, back-below, front-through, back-through}
@@ -59,7 +59,7 @@ pub record Accepted (w : ℕ) (x y : Page) : Type 0 where
 pub accepted : (v : Width) (x y : Page) → refusal (widthOf v) x y ≡ 0 → Accepted (widthOf v) x y
 accepted v x y r =
     let w = widthOf v in
-    let i = items-passed (virt w) (virt-argument w) (start x) (bytes x) (start y) (bytes y) r in
+    let i = items-passed (virt w) (start x) (bytes x) (start y) (bytes y) r in
     let p = item-passed (virt w) (start x) (bytes x) (virt-argument w) (i .0) in
     let q = item-passed (virt w) (start y) (bytes y) (virt-argument w) (i .1) in
     let ca : signExtend w (start x) ≡ start x = eqb-true (signExtend w (start x)) (start x) (p .0) in

@@ -114,11 +114,11 @@ abbrev pub pagesInclusiveOf : ℕ → PageRangeInclusive → List ℕ
 pagesInclusiveOf w r = pagesThrough w (start (r .start)) (start (r .end)) (bytes (r .start))
 
 -- the ranges that no call refuses; "An exclusive range is empty if start ≥ end, an inclusive one if start > end"; `len`
-abbrev pub given : ℕ → PageRange → Type 0
-given w r = refusal w (r .start) (r .end) ≡ 0
+abbrev pub accepted : ℕ → PageRange → Type 0
+accepted w r = refusal w (r .start) (r .end) ≡ 0
 
-abbrev pub givenInclusive : ℕ → PageRangeInclusive → Type 0
-givenInclusive w r = refusal w (r .start) (r .end) ≡ 0
+abbrev pub acceptedInclusive : ℕ → PageRangeInclusive → Type 0
+acceptedInclusive w r = refusal w (r .start) (r .end) ≡ 0
 
 abbrev pub empty : PageRange → Type 0
 empty r = start (r .end) ≤ start (r .start)

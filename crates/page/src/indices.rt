@@ -4,6 +4,7 @@ use crate::page::PageAnswer;
 use addr::VirtAddr;
 use addr::Width;
 use answer::INDEX_TOO_LARGE;
+use table::ENTRY_COUNT;
 use table::PageSize;
 ghost use mathlib.Core.Path.{_≡_};
 ghost use mathlib.Core.List.{[], _∷_};
@@ -37,16 +38,16 @@ fn truncated_page(number: u64, size: PageSize) -> PageAnswer
 pub(crate) fn page_4kib(p4: u16, p3: u16, p2: u16, p1: u16) -> PageAnswer
     ensures { λ r. ⌜ pageOf r ≡ fromIndices p4 p3 p2 p1 ⌝ }
 {
-    if 512 <= p4 {
+    if ENTRY_COUNT <= p4 {
         return PageAnswer::Refused(INDEX_TOO_LARGE);
     }
-    if 512 <= p3 {
+    if ENTRY_COUNT <= p3 {
         return PageAnswer::Refused(INDEX_TOO_LARGE);
     }
-    if 512 <= p2 {
+    if ENTRY_COUNT <= p2 {
         return PageAnswer::Refused(INDEX_TOO_LARGE);
     }
-    if 512 <= p1 {
+    if ENTRY_COUNT <= p1 {
         return PageAnswer::Refused(INDEX_TOO_LARGE);
     }
     truncated_page(assembled(p4, p3, p2, p1), PageSize::Size4KiB)
@@ -55,13 +56,13 @@ pub(crate) fn page_4kib(p4: u16, p3: u16, p2: u16, p1: u16) -> PageAnswer
 pub(crate) fn page_2mib(p4: u16, p3: u16, p2: u16) -> PageAnswer
     ensures { λ r. ⌜ pageOf r ≡ fromIndices2MiB p4 p3 p2 ⌝ }
 {
-    if 512 <= p4 {
+    if ENTRY_COUNT <= p4 {
         return PageAnswer::Refused(INDEX_TOO_LARGE);
     }
-    if 512 <= p3 {
+    if ENTRY_COUNT <= p3 {
         return PageAnswer::Refused(INDEX_TOO_LARGE);
     }
-    if 512 <= p2 {
+    if ENTRY_COUNT <= p2 {
         return PageAnswer::Refused(INDEX_TOO_LARGE);
     }
     truncated_page(assembled(p4, p3, p2, 0), PageSize::Size2MiB)
@@ -70,10 +71,10 @@ pub(crate) fn page_2mib(p4: u16, p3: u16, p2: u16) -> PageAnswer
 pub(crate) fn page_1gib(p4: u16, p3: u16) -> PageAnswer
     ensures { λ r. ⌜ pageOf r ≡ fromIndices1GiB p4 p3 ⌝ }
 {
-    if 512 <= p4 {
+    if ENTRY_COUNT <= p4 {
         return PageAnswer::Refused(INDEX_TOO_LARGE);
     }
-    if 512 <= p3 {
+    if ENTRY_COUNT <= p3 {
         return PageAnswer::Refused(INDEX_TOO_LARGE);
     }
     truncated_page(assembled(p4, p3, 0, 0), PageSize::Size1GiB)

@@ -110,7 +110,7 @@ pub(crate) fn own_index(width: Width, page: Page, level: PageTableLevel) -> Inde
     IndexAnswer::Index(level.index_of(page.start_address.0))
 }
 
-// The page count pages on, with no jump over the gap; 5 beyond 64 bits, 6 if it isn't canonical.
+// The page count pages on, by the numbers; 5 beyond 64 bits, 6 if it isn't canonical.
 pub(crate) fn add(width: Width, page: Page, count: u64) -> PageAnswer
     ensures { λ r. ⌜ pageOf r ≡ plusItem (virt (widthOf width)) (start page) (bytes page) count ⌝ }
 {
@@ -133,7 +133,7 @@ pub(crate) fn add(width: Width, page: Page, count: u64) -> PageAnswer
     })
 }
 
-// The page count pages back, with no jump over the gap; 5 below zero, 6 if it isn't canonical.
+// The page count pages back, by the numbers; 5 below zero, 6 if it isn't canonical.
 pub(crate) fn sub(width: Width, page: Page, count: u64) -> PageAnswer
     ensures { λ r. ⌜ pageOf r ≡ minusItem (virt (widthOf width)) (start page) (bytes page) count ⌝ }
 {

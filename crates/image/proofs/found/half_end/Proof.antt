@@ -2,8 +2,6 @@
 use borrow.Author.Tests.{lt-ltb, le-ltb}
 use Rattle.image.proofs.found.half_end.Statement.{statement}
 use Rattle.image.proofs.found.half_end.Tie as tie
-use Rattle.image.proofs.found.half_end.Reads as reads
-use Rattle.image.proofs.found.half_end.Lts as lts
 
 returns : tie.Need-returns
 returns c = simp (lt-ltb _ _ (c .if1 .taken))

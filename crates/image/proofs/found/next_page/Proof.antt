@@ -1,8 +1,6 @@
 -- `next_page` tells the page that an answer leaves.
-use Prim.Native.Nat.{ℕ, _^_}
-use mathlib.Core.Path.{_≡_, sym, ap, _∙_}
+use mathlib.Core.Path.{_∙_}
 use native.Mathlib.Omega.{arith}
-use borrow.Author.Needs.{needs}
 use Rattle.image.proofs.Founds.{after-end, after-run, after-stop, run-bounds, stop-bounds}
 use Rattle.image.proofs.found.next_page.Statement.{statement}
 use Rattle.image.proofs.found.next_page.Tie as tie

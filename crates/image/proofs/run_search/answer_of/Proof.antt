@@ -1,7 +1,6 @@
 -- `answer_of` reports what an answer's numbers say.
-use Prim.Native.Nat.{ℕ, _^_, _<_}
-use mathlib.Core.Path.{_≡_, refl, sym, ap, _∙_}
-use native.Mathlib.Omega.{arith}
+use Prim.Native.Nat.{ℕ}
+use mathlib.Core.Path.{_≡_, ap, _∙_}
 use borrow.Author.Needs.{needs}
 use Rattle.answer.specs.Outcome.{Outcome, gives}
 use Rattle.addr.specs.Item.{Item}

@@ -2,9 +2,6 @@
 use borrow.Author.Needs.{needs}
 use Rattle.image.proofs.run_search.numbered_page.Statement.{statement}
 use Rattle.image.proofs.run_search.numbered_page.Tie as tie
-use Rattle.image.proofs.run_search.numbered_page.Reads as reads
-use Rattle.image.proofs.run_search.numbered_page.Lts as lts
-use Rattle.addr.proofs.width.Width.truncate.Reads as truncate-reads
 
 mul-truncate : tie.Need-mul-truncate
 mul-truncate c = search needs

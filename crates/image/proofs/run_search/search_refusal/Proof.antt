@@ -1,13 +1,11 @@
 -- `search_refusal` tells the number that refuses a search.
-use mathlib.Core.Path.{_≡_, sym, _∙_}
+use mathlib.Core.Path.{sym, _∙_}
 use borrow.Author.Needs.{needs}
 use borrow.Author.Tests.{eq-eqb, ne-eqb}
-use denote.Ref.{now}
 use Rattle.laws.proofs.Cases.{test-fails, test-holds}
 use Rattle.addr.specs.Item.{itemRefusal}
 use Rattle.addr.proofs.Item.{first-refused}
 use Rattle.image.specs.Search.{searchRefusal}
-use Rattle.image.specs.Translate.{imageRefusal}
 use Rattle.image.proofs.run_search.search_refusal.Statement.{statement}
 use Rattle.image.proofs.run_search.search_refusal.Tie as tie
 

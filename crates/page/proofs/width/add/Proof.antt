@@ -6,7 +6,7 @@ use lib.Pow.{pow-pos}
 use borrow.Author.Needs.{needs}
 use Rattle.laws.proofs.Align.{times-past, times-within}
 use Rattle.laws.proofs.Cases.{test-fails, test-holds}
-use Rattle.addr.proofs.Item.{virt-argument, item-refused, plus-overflow, plus-outside, plus-gives}
+use Rattle.addr.proofs.Item.{item-refused, plus-overflow, plus-outside, plus-gives}
 use Rattle.addr.specs.Address.{virt}
 use Rattle.addr.specs.Widths.{widthOf}
 use Rattle.table.specs.Level.{powerOf}
@@ -34,7 +34,7 @@ returns-2 c =
     let x = b .args .page in
     let n = b .args .count in
     let g = times-past n (bytes x) (18446744073709551615 - start x) (pow-pos (powerOf (x .size))) (omega (arith, c .before .count .ensures)) in
-    plus-overflow (virt (widthOf (c .before .before .before .before .args .width))) (virt-argument (widthOf (c .before .before .before .before .args .width))) (start x) (bytes x) n (sym (c .before .before .before .page-refusal .ensures) ∙ c .before .before .if1 .left) (omega arith)
+    plus-overflow (virt (widthOf (c .before .before .before .before .args .width))) (start x) (bytes x) n (sym (c .before .before .before .page-refusal .ensures) ∙ c .before .before .if1 .left) (omega arith)
 
 bytes-requires : tie.Need-bytes-requires
 bytes-requires c κs = search needs
@@ -64,7 +64,7 @@ returns-3 c =
     let x = b .args .page in
     let n = b .args .count in
     let g = times-within n (bytes x) (18446744073709551615 - start x) (pow-pos (powerOf (x .size))) (omega (arith, c .before .before .before .before .count .ensures)) in
-    plus-outside (virt (widthOf (c .before .before .before .before .before .before .before .args .width))) (virt-argument (widthOf (c .before .before .before .before .before .before .before .args .width))) (start x) (bytes x) n (sym (c .before .before .before .before .before .before .page-refusal .ensures) ∙ c .before .before .before .before .before .if1 .left) (omega arith) (rw (c .before .before .bytes .ensures) at (test-fails (c .before .is-canonical .ensures) (c .if3 .taken)))
+    plus-outside (virt (widthOf (c .before .before .before .before .before .before .before .args .width))) (start x) (bytes x) n (sym (c .before .before .before .before .before .before .page-refusal .ensures) ∙ c .before .before .before .before .before .if1 .left) (omega arith) (rw (c .before .before .bytes .ensures) at (test-fails (c .before .is-canonical .ensures) (c .if3 .taken)))
 
 returns-4 : tie.Need-returns-4
 returns-4 c =
@@ -72,7 +72,7 @@ returns-4 c =
     let x = b .args .page in
     let n = b .args .count in
     let g = times-within n (bytes x) (18446744073709551615 - start x) (pow-pos (powerOf (x .size))) (omega (arith, c .before .before .before .before .count .ensures)) in
-    rw (c .before .before .bytes .ensures) (plus-gives (virt (widthOf (c .before .before .before .before .before .before .before .args .width))) (virt-argument (widthOf (c .before .before .before .before .before .before .before .args .width))) (start x) (bytes x) n (sym (c .before .before .before .before .before .before .page-refusal .ensures) ∙ c .before .before .before .before .before .if1 .left) (omega arith) (rw (c .before .before .bytes .ensures) at (test-holds (c .before .is-canonical .ensures) (c .if3 .left))))
+    rw (c .before .before .bytes .ensures) (plus-gives (virt (widthOf (c .before .before .before .before .before .before .before .args .width))) (start x) (bytes x) n (sym (c .before .before .before .before .before .before .page-refusal .ensures) ∙ c .before .before .before .before .before .if1 .left) (omega arith) (rw (c .before .before .bytes .ensures) at (test-holds (c .before .is-canonical .ensures) (c .if3 .left))))
 
 pub add-spec : {M : Type 1} → statement M
 add-spec =

@@ -8,7 +8,7 @@ use borrow.Author.Needs.{needs}
 use Rattle.answer.specs.Outcome.{gives, refuses, unless}
 use Rattle.answer.specs.Refusal.{sizesDiffer}
 use Rattle.laws.specs.Index.{span, index}
-use Rattle.addr.proofs.Item.{virt-argument, item-refused, item-given}
+use Rattle.addr.proofs.Item.{item-refused, item-given}
 use Rattle.addr.specs.Address.{virt}
 use Rattle.addr.specs.Widths.{widthOf}
 use Rattle.table.specs.Level.{levelOf}
@@ -36,7 +36,7 @@ returns-2 c =
     let x = b .args .page in
     let l = levelOf (b .args .level) in
     let q : refuses sizesDiffer ≡ unless sizesDiffer (leb (bytes x) (span (l - 1))) (gives (index l (start x))) = simp (lt-leb (bytes x) (span (l - 1)) (omega (arith, c .before .bytes .ensures, c .before .before .entry-address-space-alignment .ensures))) in
-    q ∙ item-given (virt (widthOf (c .before .before .before .before .before .args .width))) (virt-argument (widthOf (c .before .before .before .before .before .args .width))) (start x) (bytes x) (unless sizesDiffer (leb (bytes x) (span (l - 1))) (gives (index l (start x)))) (sym (c .before .before .before .before .page-refusal .ensures) ∙ c .before .before .before .if1 .left)
+    q ∙ item-given (virt (widthOf (c .before .before .before .before .before .args .width))) (start x) (bytes x) (unless sizesDiffer (leb (bytes x) (span (l - 1))) (gives (index l (start x)))) (sym (c .before .before .before .before .page-refusal .ensures) ∙ c .before .before .before .if1 .left)
 
 index-of-requires : tie.Need-index-of-requires
 index-of-requires c κs = search needs
@@ -47,7 +47,7 @@ returns-3 c =
     let x = b .args .page in
     let l = levelOf (b .args .level) in
     let q : gives (index l (start x)) ≡ unless sizesDiffer (leb (bytes x) (span (l - 1))) (gives (index l (start x))) = simp (le-leb (bytes x) (span (l - 1)) (omega (arith, c .before .before .bytes .ensures, c .before .before .before .entry-address-space-alignment .ensures))) in
-    rw (c .index-of .ensures) (q ∙ item-given (virt (widthOf (c .before .before .before .before .before .before .args .width))) (virt-argument (widthOf (c .before .before .before .before .before .before .args .width))) (start x) (bytes x) (unless sizesDiffer (leb (bytes x) (span (l - 1))) (gives (index l (start x)))) (sym (c .before .before .before .before .before .page-refusal .ensures) ∙ c .before .before .before .before .if1 .left))
+    rw (c .index-of .ensures) (q ∙ item-given (virt (widthOf (c .before .before .before .before .before .before .args .width))) (start x) (bytes x) (unless sizesDiffer (leb (bytes x) (span (l - 1))) (gives (index l (start x)))) (sym (c .before .before .before .before .before .page-refusal .ensures) ∙ c .before .before .before .before .if1 .left))
 
 pub own-index-spec : {M : Type 1} → statement M
 own-index-spec =

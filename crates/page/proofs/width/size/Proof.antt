@@ -1,7 +1,7 @@
 -- `size` meets its contract.
 use mathlib.Core.Path.{sym, _∙_}
 use borrow.Author.Needs.{needs}
-use Rattle.addr.proofs.Item.{virt-argument, item-refused, item-given}
+use Rattle.addr.proofs.Item.{item-refused, item-given}
 use Rattle.addr.specs.Address.{virt}
 use Rattle.addr.specs.Widths.{widthOf}
 use Rattle.page.proofs.width.size.Statement.{statement}
@@ -20,7 +20,7 @@ bytes-requires c κs = search needs
 
 returns-2 : tie.Need-returns-2
 returns-2 c =
-    rw (c .bytes .ensures) (item-given (virt (widthOf (c .before .before .before .args .width))) (virt-argument (widthOf (c .before .before .before .args .width))) _ _ _ (sym (c .before .before .page-refusal .ensures) ∙ c .before .if1 .left))
+    rw (c .bytes .ensures) (item-given (virt (widthOf (c .before .before .before .args .width))) _ _ _ (sym (c .before .before .page-refusal .ensures) ∙ c .before .if1 .left))
 
 pub size-spec : {M : Type 1} → statement M
 size-spec = tie.close (tie.spec page-refusal-requires returns bytes-requires returns-2)

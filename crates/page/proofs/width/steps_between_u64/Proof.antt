@@ -3,7 +3,7 @@ use mathlib.Core.Path.{sym, _∙_}
 use native.Mathlib.Omega.{arith}
 use borrow.Author.Needs.{needs}
 use Rattle.laws.specs.Width.{low}
-use Rattle.addr.proofs.Item.{virt-argument, items-refused}
+use Rattle.addr.proofs.Item.{items-refused}
 use Rattle.addr.specs.Address.{virt}
 use Rattle.addr.specs.Widths.{widthOf}
 use Rattle.page.proofs.Steps.{steps-none, steps-pages}
@@ -17,7 +17,7 @@ pages-refusal-requires c κs = search needs
 returns : tie.Need-returns
 returns c =
     let e = c .before .pages-refusal .ensures in
-    rw e (items-refused (virt (widthOf (c .before .before .args .width))) (virt-argument (widthOf (c .before .before .args .width))) _ _ _ _ _ (λ z. c .if1 .taken (e ∙ z)))
+    rw e (items-refused (virt (widthOf (c .before .before .args .width))) _ _ _ _ _ (λ z. c .if1 .taken (e ∙ z)))
 
 low-requires : tie.Need-low-requires
 low-requires c κs = search needs

@@ -5,7 +5,7 @@ use lib.Pow.{pow-pos}
 use borrow.Author.Needs.{needs}
 use Rattle.laws.proofs.Align.{times-past, times-within}
 use Rattle.laws.proofs.Cases.{test-fails, test-holds}
-use Rattle.addr.proofs.Item.{virt-argument, item-refused, minus-overflow, minus-outside, minus-gives}
+use Rattle.addr.proofs.Item.{item-refused, minus-overflow, minus-outside, minus-gives}
 use Rattle.addr.specs.Address.{virt}
 use Rattle.addr.specs.Widths.{widthOf}
 use Rattle.table.specs.Level.{powerOf}
@@ -29,7 +29,7 @@ returns-2 c =
     let b = c .before .before .before .before in
     let x = b .args .page in
     let n = b .args .count in
-    minus-overflow (virt (widthOf (c .before .before .before .before .args .width))) (virt-argument (widthOf (c .before .before .before .before .args .width))) (start x) (bytes x) n (sym (c .before .before .before .page-refusal .ensures) ∙ c .before .before .if1 .left) (times-past n (bytes x) (start x) (pow-pos (powerOf (x .size))) (omega (arith, c .before .count .ensures)))
+    minus-overflow (virt (widthOf (c .before .before .before .before .args .width))) (start x) (bytes x) n (sym (c .before .before .before .page-refusal .ensures) ∙ c .before .before .if1 .left) (times-past n (bytes x) (start x) (pow-pos (powerOf (x .size))) (omega (arith, c .before .count .ensures)))
 
 bytes-requires : tie.Need-bytes-requires
 bytes-requires c κs = search needs
@@ -59,7 +59,7 @@ returns-3 c =
     let x = b .args .page in
     let n = b .args .count in
     let g = times-within n (bytes x) (start x) (pow-pos (powerOf (x .size))) (omega (arith, c .before .before .before .before .count .ensures)) in
-    minus-outside (virt (widthOf (c .before .before .before .before .before .before .before .args .width))) (virt-argument (widthOf (c .before .before .before .before .before .before .before .args .width))) (start x) (bytes x) n (sym (c .before .before .before .before .before .before .page-refusal .ensures) ∙ c .before .before .before .before .before .if1 .left) g (rw (c .before .before .bytes .ensures) at (test-fails (c .before .is-canonical .ensures) (c .if3 .taken)))
+    minus-outside (virt (widthOf (c .before .before .before .before .before .before .before .args .width))) (start x) (bytes x) n (sym (c .before .before .before .before .before .before .page-refusal .ensures) ∙ c .before .before .before .before .before .if1 .left) g (rw (c .before .before .bytes .ensures) at (test-fails (c .before .is-canonical .ensures) (c .if3 .taken)))
 
 returns-4 : tie.Need-returns-4
 returns-4 c =
@@ -67,7 +67,7 @@ returns-4 c =
     let x = b .args .page in
     let n = b .args .count in
     let g = times-within n (bytes x) (start x) (pow-pos (powerOf (x .size))) (omega (arith, c .before .before .before .before .count .ensures)) in
-    rw (c .before .before .bytes .ensures) (minus-gives (virt (widthOf (c .before .before .before .before .before .before .before .args .width))) (virt-argument (widthOf (c .before .before .before .before .before .before .before .args .width))) (start x) (bytes x) n (sym (c .before .before .before .before .before .before .page-refusal .ensures) ∙ c .before .before .before .before .before .if1 .left) g (rw (c .before .before .bytes .ensures) at (test-holds (c .before .is-canonical .ensures) (c .if3 .left))))
+    rw (c .before .before .bytes .ensures) (minus-gives (virt (widthOf (c .before .before .before .before .before .before .before .args .width))) (start x) (bytes x) n (sym (c .before .before .before .before .before .before .page-refusal .ensures) ∙ c .before .before .before .before .before .if1 .left) g (rw (c .before .before .bytes .ensures) at (test-holds (c .before .is-canonical .ensures) (c .if3 .left))))
 
 pub sub-spec : {M : Type 1} → statement M
 sub-spec =

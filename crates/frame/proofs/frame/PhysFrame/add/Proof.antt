@@ -7,7 +7,7 @@ use borrow.Author.Tests.{lt-ltb, le-ltb}
 use borrow.Author.Needs.{needs}
 use Rattle.laws.proofs.Align.{times-past, times-within}
 use Rattle.table.specs.Level.{powerOf}
-use Rattle.addr.proofs.Item.{phys-argument, item-refused, plus-overflow, plus-outside, plus-gives}
+use Rattle.addr.proofs.Item.{item-refused, plus-overflow, plus-outside, plus-gives}
 use Rattle.addr.specs.Address.{phys}
 use Rattle.frame.specs.Frame.{start, bytes}
 use Rattle.frame.proofs.frame.PhysFrame.add.Statement.{statement}
@@ -33,7 +33,7 @@ returns-2 c =
     let x = b .args .self in
     let n = b .args .count in
     let g = times-past n (bytes x) (18446744073709551615 - start x) (pow-pos (powerOf (x .size))) (omega (arith, c .before .count .ensures)) in
-    plus-overflow (phys 52) (phys-argument 52) (start x) (bytes x) n (sym (c .before .before .before .frame-refusal .ensures) ∙ c .before .before .if1 .left) (omega arith)
+    plus-overflow (phys 52) (start x) (bytes x) n (sym (c .before .before .before .frame-refusal .ensures) ∙ c .before .before .if1 .left) (omega arith)
 
 bytes-requires : tie.Need-bytes-requires
 bytes-requires c κs = search needs
@@ -60,7 +60,7 @@ returns-3 c =
     let x = b .args .self in
     let n = b .args .count in
     let g = times-within n (bytes x) (18446744073709551615 - start x) (pow-pos (powerOf (x .size))) (omega (arith, c .before .before .before .count .ensures)) in
-    plus-outside (phys 52) (phys-argument 52) (start x) (bytes x) n (sym (c .before .before .before .before .before .frame-refusal .ensures) ∙ c .before .before .before .before .if1 .left) (omega arith) (le-ltb (start x + n * bytes x) (2 ^ 52) (rw (c .before .bytes .ensures) at (c .if3 .taken)))
+    plus-outside (phys 52) (start x) (bytes x) n (sym (c .before .before .before .before .before .frame-refusal .ensures) ∙ c .before .before .before .before .if1 .left) (omega arith) (le-ltb (start x + n * bytes x) (2 ^ 52) (rw (c .before .bytes .ensures) at (c .if3 .taken)))
 
 returns-4 : tie.Need-returns-4
 returns-4 c =
@@ -68,7 +68,7 @@ returns-4 c =
     let x = b .args .self in
     let n = b .args .count in
     let g = times-within n (bytes x) (18446744073709551615 - start x) (pow-pos (powerOf (x .size))) (omega (arith, c .before .before .before .count .ensures)) in
-    rw (c .before .bytes .ensures) (plus-gives (phys 52) (phys-argument 52) (start x) (bytes x) n (sym (c .before .before .before .before .before .frame-refusal .ensures) ∙ c .before .before .before .before .if1 .left) (omega arith) (lt-ltb (start x + n * bytes x) (2 ^ 52) (rw (c .before .bytes .ensures) at (c .if3 .left))))
+    rw (c .before .bytes .ensures) (plus-gives (phys 52) (start x) (bytes x) n (sym (c .before .before .before .before .before .frame-refusal .ensures) ∙ c .before .before .before .before .if1 .left) (omega arith) (lt-ltb (start x + n * bytes x) (2 ^ 52) (rw (c .before .bytes .ensures) at (c .if3 .left))))
 
 pub add-spec : {M : Type 1} → statement M
 add-spec =

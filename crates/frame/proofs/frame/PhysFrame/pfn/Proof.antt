@@ -1,7 +1,7 @@
 -- `PhysFrame::pfn` meets its contract.
 use mathlib.Core.Path.{sym, _∙_}
 use borrow.Author.Needs.{needs}
-use Rattle.addr.proofs.Item.{phys-argument, item-refused, item-given}
+use Rattle.addr.proofs.Item.{item-refused, item-given}
 use Rattle.addr.specs.Address.{phys}
 use Rattle.frame.proofs.frame.PhysFrame.pfn.Statement.{statement}
 use Rattle.frame.proofs.frame.PhysFrame.pfn.Tie as tie
@@ -19,7 +19,7 @@ count-requires c κs = search needs
 
 returns-2 : tie.Need-returns-2
 returns-2 c =
-    rw (c .count .ensures) (item-given (phys 52) (phys-argument 52) _ _ _ (sym (c .before .before .frame-refusal .ensures) ∙ c .before .if1 .left))
+    rw (c .count .ensures) (item-given (phys 52) _ _ _ (sym (c .before .before .frame-refusal .ensures) ∙ c .before .if1 .left))
 
 pub pfn-spec : {M : Type 1} → statement M
 pfn-spec = tie.close (tie.spec frame-refusal-requires returns count-requires returns-2)

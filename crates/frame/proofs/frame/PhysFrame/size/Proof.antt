@@ -1,7 +1,7 @@
 -- `PhysFrame::size` meets its contract.
 use mathlib.Core.Path.{sym, _∙_}
 use borrow.Author.Needs.{needs}
-use Rattle.addr.proofs.Item.{phys-argument, item-refused, item-given}
+use Rattle.addr.proofs.Item.{item-refused, item-given}
 use Rattle.addr.specs.Address.{phys}
 use Rattle.frame.proofs.frame.PhysFrame.size.Statement.{statement}
 use Rattle.frame.proofs.frame.PhysFrame.size.Tie as tie
@@ -19,7 +19,7 @@ bytes-requires c κs = search needs
 
 returns-2 : tie.Need-returns-2
 returns-2 c =
-    rw (c .bytes .ensures) (item-given (phys 52) (phys-argument 52) _ _ _ (sym (c .before .before .frame-refusal .ensures) ∙ c .before .if1 .left))
+    rw (c .bytes .ensures) (item-given (phys 52) _ _ _ (sym (c .before .before .frame-refusal .ensures) ∙ c .before .if1 .left))
 
 pub size-spec : {M : Type 1} → statement M
 size-spec = tie.close (tie.spec frame-refusal-requires returns bytes-requires returns-2)

@@ -1,7 +1,7 @@
 -- `PhysFrame::start_address` meets its contract.
 use mathlib.Core.Path.{sym, _∙_}
 use borrow.Author.Needs.{needs}
-use Rattle.addr.proofs.Item.{phys-argument, item-refused, item-given}
+use Rattle.addr.proofs.Item.{item-refused, item-given}
 use Rattle.addr.specs.Address.{phys}
 use Rattle.frame.proofs.frame.PhysFrame.start_address.Statement.{statement}
 use Rattle.frame.proofs.frame.PhysFrame.start_address.Tie as tie
@@ -16,7 +16,7 @@ returns c =
 
 returns-2 : tie.Need-returns-2
 returns-2 c =
-    item-given (phys 52) (phys-argument 52) _ _ _ (sym (c .before .before .frame-refusal .ensures) ∙ c .before .if1 .left)
+    item-given (phys 52) _ _ _ (sym (c .before .before .frame-refusal .ensures) ∙ c .before .if1 .left)
 
 pub start-address-spec : {M : Type 1} → statement M
 start-address-spec = tie.close (tie.spec frame-refusal-requires returns returns-2)

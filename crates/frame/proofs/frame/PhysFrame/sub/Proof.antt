@@ -29,7 +29,7 @@ returns-2 c =
     let b = c .before .before .before .before in
     let x = b .args .self in
     let n = b .args .count in
-    minus-overflow (phys 52) (phys-argument 52) (start x) (bytes x) n (sym (c .before .before .before .frame-refusal .ensures) ∙ c .before .before .if1 .left) (times-past n (bytes x) (start x) (pow-pos (powerOf (x .size))) (omega (arith, c .before .count .ensures)))
+    minus-overflow (phys 52) (start x) (bytes x) n (sym (c .before .before .before .frame-refusal .ensures) ∙ c .before .before .if1 .left) (times-past n (bytes x) (start x) (pow-pos (powerOf (x .size))) (omega (arith, c .before .count .ensures)))
 
 bytes-requires : tie.Need-bytes-requires
 bytes-requires c κs = search needs
@@ -57,7 +57,7 @@ returns-3 c =
     let n = b .args .count in
     let g = times-within n (bytes x) (start x) (pow-pos (powerOf (x .size))) (omega (arith, c .before .before .count .ensures)) in
     let p = item-passed (phys 52) (start x) (bytes x) (phys-argument 52) (sym (c .before .before .before .before .frame-refusal .ensures) ∙ c .before .before .before .if1 .left) in
-    rw (c .bytes .ensures) (minus-gives (phys 52) (phys-argument 52) (start x) (bytes x) n (sym (c .before .before .before .before .frame-refusal .ensures) ∙ c .before .before .before .if1 .left) g (lt-ltb (start x - n * bytes x) (2 ^ 52) (omega (arith, ltb-true (start x) (2 ^ 52) (p .0)))))
+    rw (c .bytes .ensures) (minus-gives (phys 52) (start x) (bytes x) n (sym (c .before .before .before .before .frame-refusal .ensures) ∙ c .before .before .before .if1 .left) g (lt-ltb (start x - n * bytes x) (2 ^ 52) (omega (arith, ltb-true (start x) (2 ^ 52) (p .0)))))
 
 pub sub-spec : {M : Type 1} → statement M
 sub-spec =

@@ -3,7 +3,7 @@ use mathlib.Core.Path.{sym, _∙_}
 use native.Mathlib.Omega.{arith}
 use borrow.Author.Needs.{needs}
 use Rattle.laws.proofs.Run.{fits-below}
-use Rattle.addr.proofs.Item.{phys-argument, items-refused, items-given}
+use Rattle.addr.proofs.Item.{items-refused, items-given}
 use Rattle.addr.specs.Address.{phys}
 use Rattle.frame.specs.Frame.{start, bytes}
 use Rattle.frame.proofs.Ranges.{accepted}
@@ -16,7 +16,7 @@ frames-refusal-requires c κs = search needs
 returns : tie.Need-returns
 returns c =
     let e = c .before .frames-refusal .ensures in
-    rw e (items-refused (phys 52) (phys-argument 52) _ _ _ _ _ (λ z. c .if1 .taken (e ∙ z)))
+    rw e (items-refused (phys 52) _ _ _ _ _ (λ z. c .if1 .taken (e ∙ z)))
 
 len-below-requires : tie.Need-len-below-requires
 len-below-requires c κs = search needs
@@ -40,7 +40,7 @@ returns-2 c =
     rw (
       c .bytes .ensures,
       c .before .len-below .ensures,
-    ) (items-given (phys 52) (phys-argument 52) _ _ _ _ _ (sym (c .before .before .before .frames-refusal .ensures) ∙ c .before .before .if1 .left))
+    ) (items-given (phys 52) _ _ _ _ _ (sym (c .before .before .before .frames-refusal .ensures) ∙ c .before .before .if1 .left))
 
 pub size-spec : {M : Type 1} → statement M
 size-spec =

@@ -10,7 +10,7 @@ use Rattle.answer.specs.Outcome.{gives, unless}
 use Rattle.answer.specs.Refusal.{overflow}
 use Rattle.laws.specs.Run.{lenThrough}
 use Rattle.laws.proofs.Run.{fits-through}
-use Rattle.addr.proofs.Item.{phys-argument, items-refused, items-given}
+use Rattle.addr.proofs.Item.{items-refused, items-given}
 use Rattle.addr.specs.Address.{phys}
 use Rattle.frame.specs.Frame.{start, bytes}
 use Rattle.frame.proofs.Ranges.{accepted}
@@ -23,7 +23,7 @@ frames-refusal-requires c κs = search needs
 returns : tie.Need-returns
 returns c =
     let e = c .before .frames-refusal .ensures in
-    rw e (items-refused (phys 52) (phys-argument 52) _ _ _ _ _ (λ z. c .if1 .taken (e ∙ z)))
+    rw e (items-refused (phys 52) _ _ _ _ _ (λ z. c .if1 .taken (e ∙ z)))
 
 len-through-requires : tie.Need-len-through-requires
 len-through-requires c κs = search needs
@@ -52,7 +52,7 @@ returns-2 c =
     rw (
       c .bytes .ensures,
       c .before .len-through .ensures,
-    ) (q ∙ items-given (phys 52) (phys-argument 52) _ _ _ _ (unless overflow (cond (eqb (start y) (2 ^ 64 - bytes x)) (cond (eqb (start x) 0) false true) true) (gives (lenThrough (start x) (start y) (bytes x) * bytes x))) (sym (c .before .before .before .frames-refusal .ensures) ∙ c .before .before .if1 .left))
+    ) (q ∙ items-given (phys 52) _ _ _ _ (unless overflow (cond (eqb (start y) (2 ^ 64 - bytes x)) (cond (eqb (start x) 0) false true) true) (gives (lenThrough (start x) (start y) (bytes x) * bytes x))) (sym (c .before .before .before .frames-refusal .ensures) ∙ c .before .before .if1 .left))
 
 pub size-spec : {M : Type 1} → statement M
 size-spec =

@@ -5,7 +5,7 @@ use borrow.Author.Tests.{eq-eqb, ne-eqb}
 use borrow.Author.Needs.{needs}
 use Rattle.answer.specs.Outcome.{gives, refuses, unless}
 use Rattle.answer.specs.Refusal.{sizesDiffer}
-use Rattle.addr.proofs.Item.{virt-argument, items-refused, items-given}
+use Rattle.addr.proofs.Item.{items-refused, items-given}
 use Rattle.addr.specs.Address.{virt}
 use Rattle.addr.specs.Item.{item}
 use Rattle.addr.specs.Range.{ends}
@@ -19,7 +19,7 @@ pages-refusal-requires c κs = search needs
 returns : tie.Need-returns
 returns c =
     let e = c .before .pages-refusal .ensures in
-    rw e (items-refused (virt 48) (virt-argument 48) _ _ _ _ _ (λ z. c .if1 .taken (e ∙ z)))
+    rw e (items-refused (virt 48) _ _ _ _ _ (λ z. c .if1 .taken (e ∙ z)))
 
 bytes-requires : tie.Need-bytes-requires
 bytes-requires c κs = search needs
@@ -30,7 +30,7 @@ returns-2 c =
     let x = b .args .self .start in
     let y = b .args .self .end in
     let q : refuses sizesDiffer ≡ unless sizesDiffer (eqb (bytes x) 0x20_0000) (gives (ends (item (start x) 0x1000) (item (start y) 0x1000))) = simp (ne-eqb (bytes x) 0x20_0000 (λ e. c .if2 .taken (c .before .bytes .ensures ∙ e))) in
-    q ∙ items-given (virt 48) (virt-argument 48) _ _ _ _ (unless sizesDiffer (eqb (bytes x) 0x20_0000) (gives (ends (item (start x) 0x1000) (item (start y) 0x1000)))) (sym (c .before .before .before .pages-refusal .ensures) ∙ c .before .before .if1 .left)
+    q ∙ items-given (virt 48) _ _ _ _ (unless sizesDiffer (eqb (bytes x) 0x20_0000) (gives (ends (item (start x) 0x1000) (item (start y) 0x1000)))) (sym (c .before .before .before .pages-refusal .ensures) ∙ c .before .before .if1 .left)
 
 page-at-requires : tie.Need-page-at-requires
 page-at-requires c κs = search needs
@@ -47,7 +47,7 @@ returns-3 c =
     rw (
       c .before .page-at .ensures,
       c .page-at2 .ensures,
-    ) (q ∙ items-given (virt 48) (virt-argument 48) _ _ _ _ (unless sizesDiffer (eqb (bytes x) 0x20_0000) (gives (ends (item (start x) 0x1000) (item (start y) 0x1000)))) (sym (c .before .before .before .before .before .pages-refusal .ensures) ∙ c .before .before .before .before .if1 .left))
+    ) (q ∙ items-given (virt 48) _ _ _ _ (unless sizesDiffer (eqb (bytes x) 0x20_0000) (gives (ends (item (start x) 0x1000) (item (start y) 0x1000)))) (sym (c .before .before .before .before .before .pages-refusal .ensures) ∙ c .before .before .before .before .if1 .left))
 
 pub as-4kib-page-range-spec : {M : Type 1} → statement M
 as-4kib-page-range-spec =

@@ -3,7 +3,7 @@ use mathlib.Core.Path.{sym, _∙_}
 use native.Mathlib.Omega.{arith}
 use borrow.Author.Needs.{needs}
 use Rattle.laws.proofs.Run.{fits-below}
-use Rattle.addr.proofs.Item.{virt-argument, items-refused, items-given}
+use Rattle.addr.proofs.Item.{items-refused, items-given}
 use Rattle.addr.specs.Address.{virt}
 use Rattle.addr.specs.declared.width.Width.the-variants.{Bits48}
 use Rattle.page.specs.Page.{start, bytes}
@@ -17,7 +17,7 @@ pages-refusal-requires c κs = search needs
 returns : tie.Need-returns
 returns c =
     let e = c .before .pages-refusal .ensures in
-    rw e (items-refused (virt 48) (virt-argument 48) _ _ _ _ _ (λ z. c .if1 .taken (e ∙ z)))
+    rw e (items-refused (virt 48) _ _ _ _ _ (λ z. c .if1 .taken (e ∙ z)))
 
 len-below-requires : tie.Need-len-below-requires
 len-below-requires c κs = search needs
@@ -41,7 +41,7 @@ returns-2 c =
     rw (
       c .bytes .ensures,
       c .before .len-below .ensures,
-    ) (items-given (virt 48) (virt-argument 48) _ _ _ _ (_) (sym (c .before .before .before .pages-refusal .ensures) ∙ c .before .before .if1 .left))
+    ) (items-given (virt 48) _ _ _ _ (_) (sym (c .before .before .before .pages-refusal .ensures) ∙ c .before .before .if1 .left))
 
 pub size-spec : {M : Type 1} → statement M
 size-spec =
