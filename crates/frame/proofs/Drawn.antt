@@ -93,7 +93,7 @@ module _ (Empty : PhysFrame → PhysFrame → Type 0) (len : ℕ → ℕ → ℕ
       record {
         no-number = λ n x y g. ranges.no-number x y (under (bytes x) (start x) (start y) n) (on (bytes x) (start x) (start y) n) g (inside x y n g);
         free = λ n x y h. first-passed (refusal x y) (leavesMemory (under (bytes x) (start x) (start y) n) (on (bytes x) (start x) (start y) n)) h;
-        accepted = λ n x y g. g;
+        given = λ n x y g. g;
         by-numbers = λ n x y g. refl;
         steps = λ x y g. let a = ranges.accepted x y g in steps (bytes x) (a .some) (omega arith);
         start-within = λ x y g. let a = ranges.accepted x y g in omega arith;

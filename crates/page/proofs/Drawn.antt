@@ -194,7 +194,7 @@ module _ (v : Width) (Empty : Page → Page → Type 0) (len : ℕ → ℕ → �
       record {
         no-number = λ n x y f. let (g, h) = f in simp (g, h);
         free = λ n x y h. passed (refusal (widthOf v) x y) (gap (widthOf v) (start x) (start y) (bytes x) n) h;
-        accepted = λ n x y f. f .0;
+        given = λ n x y f. f .0;
         by-numbers = λ n x y f. same x y n (ranges.accepted v x y (f .0) .ends) (f .1);
         steps = λ x y g. let a = ranges.accepted v x y g in steps (bytes x) (a .ends .some) (omega (arith, a .small));
         start-within = λ x y g. let a = ranges.accepted v x y g in omega (arith, a .first);
