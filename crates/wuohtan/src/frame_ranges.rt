@@ -1,8 +1,7 @@
 // Ranges of frames, as numbers: start and end, each with its size in bytes.
-use addr::PhysAddr;
+use convention::FramesAnswer;
 use convention::NO_SUCH_CHOICE;
-use convention::SizeAnswer;
-use convention::choose_size;
+use convention::choose_frames;
 use convention::give_bool;
 use convention::give_frame_draw;
 use convention::give_frame_draw_inclusive;
@@ -38,19 +37,8 @@ pub extern "C" fn wuohtan_phys_frame_range_new(
 ) -> u8
     ensures { λ r. ⌜ left r (now (out .exit)) ≡ leaves (ofSize «start_size» (ofSize «end_size» (pair (makeRange (phys 52) start «start_size» end «end_size»)))) (now (out .entry)) ⌝ }
 {
-    let SizeAnswer::Size(s) = choose_size(start_size) else {
+    let FramesAnswer::Frames(first, last) = choose_frames(start, start_size, end, end_size) else {
         return NO_SUCH_CHOICE;
-    };
-    let SizeAnswer::Size(t) = choose_size(end_size) else {
-        return NO_SUCH_CHOICE;
-    };
-    let first = PhysFrame {
-        start_address: PhysAddr(start),
-        size: s,
-    };
-    let last = PhysFrame {
-        start_address: PhysAddr(end),
-        size: t,
     };
     give_frame_range(PhysFrame::range(first, last), out)
 }
@@ -65,19 +53,8 @@ pub extern "C" fn wuohtan_phys_frame_range_is_empty(
 ) -> u8
     ensures { λ r. ⌜ left r (now (out .exit)) ≡ leaves (ofSize «start_size» (ofSize «end_size» (truth (emptyBelow (phys 52) start «start_size» end «end_size»)))) (now (out .entry)) ⌝ }
 {
-    let SizeAnswer::Size(s) = choose_size(start_size) else {
+    let FramesAnswer::Frames(first, last) = choose_frames(start, start_size, end, end_size) else {
         return NO_SUCH_CHOICE;
-    };
-    let SizeAnswer::Size(t) = choose_size(end_size) else {
-        return NO_SUCH_CHOICE;
-    };
-    let first = PhysFrame {
-        start_address: PhysAddr(start),
-        size: s,
-    };
-    let last = PhysFrame {
-        start_address: PhysAddr(end),
-        size: t,
     };
     let range = PhysFrameRange {
         start: first,
@@ -96,19 +73,8 @@ pub extern "C" fn wuohtan_phys_frame_range_len(
 ) -> u8
     ensures { λ r. ⌜ left r (now (out .exit)) ≡ leaves (ofSize «start_size» (ofSize «end_size» (word (countBelow (phys 52) start «start_size» end «end_size»)))) (now (out .entry)) ⌝ }
 {
-    let SizeAnswer::Size(s) = choose_size(start_size) else {
+    let FramesAnswer::Frames(first, last) = choose_frames(start, start_size, end, end_size) else {
         return NO_SUCH_CHOICE;
-    };
-    let SizeAnswer::Size(t) = choose_size(end_size) else {
-        return NO_SUCH_CHOICE;
-    };
-    let first = PhysFrame {
-        start_address: PhysAddr(start),
-        size: s,
-    };
-    let last = PhysFrame {
-        start_address: PhysAddr(end),
-        size: t,
     };
     let range = PhysFrameRange {
         start: first,
@@ -127,19 +93,8 @@ pub extern "C" fn wuohtan_phys_frame_range_size(
 ) -> u8
     ensures { λ r. ⌜ left r (now (out .exit)) ≡ leaves (ofSize «start_size» (ofSize «end_size» (word (bytesBelow (phys 52) start «start_size» end «end_size»)))) (now (out .entry)) ⌝ }
 {
-    let SizeAnswer::Size(s) = choose_size(start_size) else {
+    let FramesAnswer::Frames(first, last) = choose_frames(start, start_size, end, end_size) else {
         return NO_SUCH_CHOICE;
-    };
-    let SizeAnswer::Size(t) = choose_size(end_size) else {
-        return NO_SUCH_CHOICE;
-    };
-    let first = PhysFrame {
-        start_address: PhysAddr(start),
-        size: s,
-    };
-    let last = PhysFrame {
-        start_address: PhysAddr(end),
-        size: t,
     };
     let range = PhysFrameRange {
         start: first,
@@ -158,19 +113,8 @@ pub extern "C" fn wuohtan_phys_frame_range_next(
 ) -> u8
     ensures { λ r. ⌜ left r (now (out .exit)) ≡ leaves (ofSize «start_size» (ofSize «end_size» (frameDrawWords (nthOf (frameRangeAt start «start_size» end «end_size») 0)))) (now (out .entry)) ⌝ }
 {
-    let SizeAnswer::Size(s) = choose_size(start_size) else {
+    let FramesAnswer::Frames(first, last) = choose_frames(start, start_size, end, end_size) else {
         return NO_SUCH_CHOICE;
-    };
-    let SizeAnswer::Size(t) = choose_size(end_size) else {
-        return NO_SUCH_CHOICE;
-    };
-    let first = PhysFrame {
-        start_address: PhysAddr(start),
-        size: s,
-    };
-    let last = PhysFrame {
-        start_address: PhysAddr(end),
-        size: t,
     };
     let range = PhysFrameRange {
         start: first,
@@ -190,19 +134,8 @@ pub extern "C" fn wuohtan_phys_frame_range_nth(
 ) -> u8
     ensures { λ r. ⌜ left r (now (out .exit)) ≡ leaves (ofSize «start_size» (ofSize «end_size» (frameDrawWords (nthOf (frameRangeAt start «start_size» end «end_size») n)))) (now (out .entry)) ⌝ }
 {
-    let SizeAnswer::Size(s) = choose_size(start_size) else {
+    let FramesAnswer::Frames(first, last) = choose_frames(start, start_size, end, end_size) else {
         return NO_SUCH_CHOICE;
-    };
-    let SizeAnswer::Size(t) = choose_size(end_size) else {
-        return NO_SUCH_CHOICE;
-    };
-    let first = PhysFrame {
-        start_address: PhysAddr(start),
-        size: s,
-    };
-    let last = PhysFrame {
-        start_address: PhysAddr(end),
-        size: t,
     };
     let range = PhysFrameRange {
         start: first,
@@ -221,19 +154,8 @@ pub extern "C" fn wuohtan_phys_frame_range_next_back(
 ) -> u8
     ensures { λ r. ⌜ left r (now (out .exit)) ≡ leaves (ofSize «start_size» (ofSize «end_size» (frameDrawWords (nthBackOf (frameRangeAt start «start_size» end «end_size») 0)))) (now (out .entry)) ⌝ }
 {
-    let SizeAnswer::Size(s) = choose_size(start_size) else {
+    let FramesAnswer::Frames(first, last) = choose_frames(start, start_size, end, end_size) else {
         return NO_SUCH_CHOICE;
-    };
-    let SizeAnswer::Size(t) = choose_size(end_size) else {
-        return NO_SUCH_CHOICE;
-    };
-    let first = PhysFrame {
-        start_address: PhysAddr(start),
-        size: s,
-    };
-    let last = PhysFrame {
-        start_address: PhysAddr(end),
-        size: t,
     };
     let range = PhysFrameRange {
         start: first,
@@ -253,19 +175,8 @@ pub extern "C" fn wuohtan_phys_frame_range_nth_back(
 ) -> u8
     ensures { λ r. ⌜ left r (now (out .exit)) ≡ leaves (ofSize «start_size» (ofSize «end_size» (frameDrawWords (nthBackOf (frameRangeAt start «start_size» end «end_size») n)))) (now (out .entry)) ⌝ }
 {
-    let SizeAnswer::Size(s) = choose_size(start_size) else {
+    let FramesAnswer::Frames(first, last) = choose_frames(start, start_size, end, end_size) else {
         return NO_SUCH_CHOICE;
-    };
-    let SizeAnswer::Size(t) = choose_size(end_size) else {
-        return NO_SUCH_CHOICE;
-    };
-    let first = PhysFrame {
-        start_address: PhysAddr(start),
-        size: s,
-    };
-    let last = PhysFrame {
-        start_address: PhysAddr(end),
-        size: t,
     };
     let range = PhysFrameRange {
         start: first,
@@ -284,19 +195,8 @@ pub extern "C" fn wuohtan_phys_frame_range_inclusive_new(
 ) -> u8
     ensures { λ r. ⌜ left r (now (out .exit)) ≡ leaves (ofSize «start_size» (ofSize «end_size» (pair (makeRange (phys 52) start «start_size» end «end_size»)))) (now (out .entry)) ⌝ }
 {
-    let SizeAnswer::Size(s) = choose_size(start_size) else {
+    let FramesAnswer::Frames(first, last) = choose_frames(start, start_size, end, end_size) else {
         return NO_SUCH_CHOICE;
-    };
-    let SizeAnswer::Size(t) = choose_size(end_size) else {
-        return NO_SUCH_CHOICE;
-    };
-    let first = PhysFrame {
-        start_address: PhysAddr(start),
-        size: s,
-    };
-    let last = PhysFrame {
-        start_address: PhysAddr(end),
-        size: t,
     };
     give_frame_range_inclusive(PhysFrame::range_inclusive(first, last), out)
 }
@@ -311,19 +211,8 @@ pub extern "C" fn wuohtan_phys_frame_range_inclusive_is_empty(
 ) -> u8
     ensures { λ r. ⌜ left r (now (out .exit)) ≡ leaves (ofSize «start_size» (ofSize «end_size» (truth (emptyThrough (phys 52) start «start_size» end «end_size»)))) (now (out .entry)) ⌝ }
 {
-    let SizeAnswer::Size(s) = choose_size(start_size) else {
+    let FramesAnswer::Frames(first, last) = choose_frames(start, start_size, end, end_size) else {
         return NO_SUCH_CHOICE;
-    };
-    let SizeAnswer::Size(t) = choose_size(end_size) else {
-        return NO_SUCH_CHOICE;
-    };
-    let first = PhysFrame {
-        start_address: PhysAddr(start),
-        size: s,
-    };
-    let last = PhysFrame {
-        start_address: PhysAddr(end),
-        size: t,
     };
     let range = PhysFrameRangeInclusive {
         start: first,
@@ -342,19 +231,8 @@ pub extern "C" fn wuohtan_phys_frame_range_inclusive_len(
 ) -> u8
     ensures { λ r. ⌜ left r (now (out .exit)) ≡ leaves (ofSize «start_size» (ofSize «end_size» (word (countThrough (phys 52) start «start_size» end «end_size»)))) (now (out .entry)) ⌝ }
 {
-    let SizeAnswer::Size(s) = choose_size(start_size) else {
+    let FramesAnswer::Frames(first, last) = choose_frames(start, start_size, end, end_size) else {
         return NO_SUCH_CHOICE;
-    };
-    let SizeAnswer::Size(t) = choose_size(end_size) else {
-        return NO_SUCH_CHOICE;
-    };
-    let first = PhysFrame {
-        start_address: PhysAddr(start),
-        size: s,
-    };
-    let last = PhysFrame {
-        start_address: PhysAddr(end),
-        size: t,
     };
     let range = PhysFrameRangeInclusive {
         start: first,
@@ -373,19 +251,8 @@ pub extern "C" fn wuohtan_phys_frame_range_inclusive_size(
 ) -> u8
     ensures { λ r. ⌜ left r (now (out .exit)) ≡ leaves (ofSize «start_size» (ofSize «end_size» (word (bytesThrough (phys 52) start «start_size» end «end_size»)))) (now (out .entry)) ⌝ }
 {
-    let SizeAnswer::Size(s) = choose_size(start_size) else {
+    let FramesAnswer::Frames(first, last) = choose_frames(start, start_size, end, end_size) else {
         return NO_SUCH_CHOICE;
-    };
-    let SizeAnswer::Size(t) = choose_size(end_size) else {
-        return NO_SUCH_CHOICE;
-    };
-    let first = PhysFrame {
-        start_address: PhysAddr(start),
-        size: s,
-    };
-    let last = PhysFrame {
-        start_address: PhysAddr(end),
-        size: t,
     };
     let range = PhysFrameRangeInclusive {
         start: first,
@@ -404,19 +271,8 @@ pub extern "C" fn wuohtan_phys_frame_range_inclusive_next(
 ) -> u8
     ensures { λ r. ⌜ left r (now (out .exit)) ≡ leaves (ofSize «start_size» (ofSize «end_size» (frameDrawInclusiveWords (nthInclusiveOf (frameRangeInclusiveAt start «start_size» end «end_size») 0)))) (now (out .entry)) ⌝ }
 {
-    let SizeAnswer::Size(s) = choose_size(start_size) else {
+    let FramesAnswer::Frames(first, last) = choose_frames(start, start_size, end, end_size) else {
         return NO_SUCH_CHOICE;
-    };
-    let SizeAnswer::Size(t) = choose_size(end_size) else {
-        return NO_SUCH_CHOICE;
-    };
-    let first = PhysFrame {
-        start_address: PhysAddr(start),
-        size: s,
-    };
-    let last = PhysFrame {
-        start_address: PhysAddr(end),
-        size: t,
     };
     let range = PhysFrameRangeInclusive {
         start: first,
@@ -436,19 +292,8 @@ pub extern "C" fn wuohtan_phys_frame_range_inclusive_nth(
 ) -> u8
     ensures { λ r. ⌜ left r (now (out .exit)) ≡ leaves (ofSize «start_size» (ofSize «end_size» (frameDrawInclusiveWords (nthInclusiveOf (frameRangeInclusiveAt start «start_size» end «end_size») n)))) (now (out .entry)) ⌝ }
 {
-    let SizeAnswer::Size(s) = choose_size(start_size) else {
+    let FramesAnswer::Frames(first, last) = choose_frames(start, start_size, end, end_size) else {
         return NO_SUCH_CHOICE;
-    };
-    let SizeAnswer::Size(t) = choose_size(end_size) else {
-        return NO_SUCH_CHOICE;
-    };
-    let first = PhysFrame {
-        start_address: PhysAddr(start),
-        size: s,
-    };
-    let last = PhysFrame {
-        start_address: PhysAddr(end),
-        size: t,
     };
     let range = PhysFrameRangeInclusive {
         start: first,
@@ -467,19 +312,8 @@ pub extern "C" fn wuohtan_phys_frame_range_inclusive_next_back(
 ) -> u8
     ensures { λ r. ⌜ left r (now (out .exit)) ≡ leaves (ofSize «start_size» (ofSize «end_size» (frameDrawInclusiveWords (nthBackInclusiveOf (frameRangeInclusiveAt start «start_size» end «end_size») 0)))) (now (out .entry)) ⌝ }
 {
-    let SizeAnswer::Size(s) = choose_size(start_size) else {
+    let FramesAnswer::Frames(first, last) = choose_frames(start, start_size, end, end_size) else {
         return NO_SUCH_CHOICE;
-    };
-    let SizeAnswer::Size(t) = choose_size(end_size) else {
-        return NO_SUCH_CHOICE;
-    };
-    let first = PhysFrame {
-        start_address: PhysAddr(start),
-        size: s,
-    };
-    let last = PhysFrame {
-        start_address: PhysAddr(end),
-        size: t,
     };
     let range = PhysFrameRangeInclusive {
         start: first,
@@ -499,19 +333,8 @@ pub extern "C" fn wuohtan_phys_frame_range_inclusive_nth_back(
 ) -> u8
     ensures { λ r. ⌜ left r (now (out .exit)) ≡ leaves (ofSize «start_size» (ofSize «end_size» (frameDrawInclusiveWords (nthBackInclusiveOf (frameRangeInclusiveAt start «start_size» end «end_size») n)))) (now (out .entry)) ⌝ }
 {
-    let SizeAnswer::Size(s) = choose_size(start_size) else {
+    let FramesAnswer::Frames(first, last) = choose_frames(start, start_size, end, end_size) else {
         return NO_SUCH_CHOICE;
-    };
-    let SizeAnswer::Size(t) = choose_size(end_size) else {
-        return NO_SUCH_CHOICE;
-    };
-    let first = PhysFrame {
-        start_address: PhysAddr(start),
-        size: s,
-    };
-    let last = PhysFrame {
-        start_address: PhysAddr(end),
-        size: t,
     };
     let range = PhysFrameRangeInclusive {
         start: first,

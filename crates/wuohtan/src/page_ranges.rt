@@ -1,8 +1,7 @@
 // Ranges of pages, as numbers: start and end, each with its size in bytes.
-use addr::VirtAddr;
 use convention::NO_SUCH_CHOICE;
-use convention::SizeAnswer;
-use convention::choose_size;
+use convention::PagesAnswer;
+use convention::choose_pages;
 use convention::give_bool;
 use convention::give_page_draw;
 use convention::give_page_draw_inclusive;
@@ -38,19 +37,8 @@ pub extern "C" fn wuohtan_page_range_new(
 ) -> u8
     ensures { λ r. ⌜ left r (now (out .exit)) ≡ leaves (ofSize «start_size» (ofSize «end_size» (pair (makeRange (virt 48) start «start_size» end «end_size»)))) (now (out .entry)) ⌝ }
 {
-    let SizeAnswer::Size(s) = choose_size(start_size) else {
+    let PagesAnswer::Pages(first, last) = choose_pages(start, start_size, end, end_size) else {
         return NO_SUCH_CHOICE;
-    };
-    let SizeAnswer::Size(t) = choose_size(end_size) else {
-        return NO_SUCH_CHOICE;
-    };
-    let first = Page {
-        start_address: VirtAddr(start),
-        size: s,
-    };
-    let last = Page {
-        start_address: VirtAddr(end),
-        size: t,
     };
     give_page_range(Page::range(first, last), out)
 }
@@ -65,19 +53,8 @@ pub extern "C" fn wuohtan_page_range_is_empty(
 ) -> u8
     ensures { λ r. ⌜ left r (now (out .exit)) ≡ leaves (ofSize «start_size» (ofSize «end_size» (truth (emptyBelow (virt 48) start «start_size» end «end_size»)))) (now (out .entry)) ⌝ }
 {
-    let SizeAnswer::Size(s) = choose_size(start_size) else {
+    let PagesAnswer::Pages(first, last) = choose_pages(start, start_size, end, end_size) else {
         return NO_SUCH_CHOICE;
-    };
-    let SizeAnswer::Size(t) = choose_size(end_size) else {
-        return NO_SUCH_CHOICE;
-    };
-    let first = Page {
-        start_address: VirtAddr(start),
-        size: s,
-    };
-    let last = Page {
-        start_address: VirtAddr(end),
-        size: t,
     };
     let range = PageRange {
         start: first,
@@ -96,19 +73,8 @@ pub extern "C" fn wuohtan_page_range_len(
 ) -> u8
     ensures { λ r. ⌜ left r (now (out .exit)) ≡ leaves (ofSize «start_size» (ofSize «end_size» (word (countBelow (virt 48) start «start_size» end «end_size»)))) (now (out .entry)) ⌝ }
 {
-    let SizeAnswer::Size(s) = choose_size(start_size) else {
+    let PagesAnswer::Pages(first, last) = choose_pages(start, start_size, end, end_size) else {
         return NO_SUCH_CHOICE;
-    };
-    let SizeAnswer::Size(t) = choose_size(end_size) else {
-        return NO_SUCH_CHOICE;
-    };
-    let first = Page {
-        start_address: VirtAddr(start),
-        size: s,
-    };
-    let last = Page {
-        start_address: VirtAddr(end),
-        size: t,
     };
     let range = PageRange {
         start: first,
@@ -127,19 +93,8 @@ pub extern "C" fn wuohtan_page_range_size(
 ) -> u8
     ensures { λ r. ⌜ left r (now (out .exit)) ≡ leaves (ofSize «start_size» (ofSize «end_size» (word (bytesBelow (virt 48) start «start_size» end «end_size»)))) (now (out .entry)) ⌝ }
 {
-    let SizeAnswer::Size(s) = choose_size(start_size) else {
+    let PagesAnswer::Pages(first, last) = choose_pages(start, start_size, end, end_size) else {
         return NO_SUCH_CHOICE;
-    };
-    let SizeAnswer::Size(t) = choose_size(end_size) else {
-        return NO_SUCH_CHOICE;
-    };
-    let first = Page {
-        start_address: VirtAddr(start),
-        size: s,
-    };
-    let last = Page {
-        start_address: VirtAddr(end),
-        size: t,
     };
     let range = PageRange {
         start: first,
@@ -158,19 +113,8 @@ pub extern "C" fn wuohtan_page_range_next(
 ) -> u8
     ensures { λ r. ⌜ left r (now (out .exit)) ≡ leaves (ofSize «start_size» (ofSize «end_size» (pageDrawWords (nthOf 48 (pageRangeAt start «start_size» end «end_size») 0)))) (now (out .entry)) ⌝ }
 {
-    let SizeAnswer::Size(s) = choose_size(start_size) else {
+    let PagesAnswer::Pages(first, last) = choose_pages(start, start_size, end, end_size) else {
         return NO_SUCH_CHOICE;
-    };
-    let SizeAnswer::Size(t) = choose_size(end_size) else {
-        return NO_SUCH_CHOICE;
-    };
-    let first = Page {
-        start_address: VirtAddr(start),
-        size: s,
-    };
-    let last = Page {
-        start_address: VirtAddr(end),
-        size: t,
     };
     let range = PageRange {
         start: first,
@@ -190,19 +134,8 @@ pub extern "C" fn wuohtan_page_range_nth(
 ) -> u8
     ensures { λ r. ⌜ left r (now (out .exit)) ≡ leaves (ofSize «start_size» (ofSize «end_size» (pageDrawWords (nthOf 48 (pageRangeAt start «start_size» end «end_size») n)))) (now (out .entry)) ⌝ }
 {
-    let SizeAnswer::Size(s) = choose_size(start_size) else {
+    let PagesAnswer::Pages(first, last) = choose_pages(start, start_size, end, end_size) else {
         return NO_SUCH_CHOICE;
-    };
-    let SizeAnswer::Size(t) = choose_size(end_size) else {
-        return NO_SUCH_CHOICE;
-    };
-    let first = Page {
-        start_address: VirtAddr(start),
-        size: s,
-    };
-    let last = Page {
-        start_address: VirtAddr(end),
-        size: t,
     };
     let range = PageRange {
         start: first,
@@ -221,19 +154,8 @@ pub extern "C" fn wuohtan_page_range_next_back(
 ) -> u8
     ensures { λ r. ⌜ left r (now (out .exit)) ≡ leaves (ofSize «start_size» (ofSize «end_size» (pageDrawWords (nthBackOf 48 (pageRangeAt start «start_size» end «end_size») 0)))) (now (out .entry)) ⌝ }
 {
-    let SizeAnswer::Size(s) = choose_size(start_size) else {
+    let PagesAnswer::Pages(first, last) = choose_pages(start, start_size, end, end_size) else {
         return NO_SUCH_CHOICE;
-    };
-    let SizeAnswer::Size(t) = choose_size(end_size) else {
-        return NO_SUCH_CHOICE;
-    };
-    let first = Page {
-        start_address: VirtAddr(start),
-        size: s,
-    };
-    let last = Page {
-        start_address: VirtAddr(end),
-        size: t,
     };
     let range = PageRange {
         start: first,
@@ -253,19 +175,8 @@ pub extern "C" fn wuohtan_page_range_nth_back(
 ) -> u8
     ensures { λ r. ⌜ left r (now (out .exit)) ≡ leaves (ofSize «start_size» (ofSize «end_size» (pageDrawWords (nthBackOf 48 (pageRangeAt start «start_size» end «end_size») n)))) (now (out .entry)) ⌝ }
 {
-    let SizeAnswer::Size(s) = choose_size(start_size) else {
+    let PagesAnswer::Pages(first, last) = choose_pages(start, start_size, end, end_size) else {
         return NO_SUCH_CHOICE;
-    };
-    let SizeAnswer::Size(t) = choose_size(end_size) else {
-        return NO_SUCH_CHOICE;
-    };
-    let first = Page {
-        start_address: VirtAddr(start),
-        size: s,
-    };
-    let last = Page {
-        start_address: VirtAddr(end),
-        size: t,
     };
     let range = PageRange {
         start: first,
@@ -284,19 +195,8 @@ pub extern "C" fn wuohtan_page_range_as_4kib_page_range(
 ) -> u8
     ensures { λ r. ⌜ left r (now (out .exit)) ≡ leaves (ofSize «start_size» (ofSize «end_size» (pair (as4KiB 48 start «start_size» end «end_size»)))) (now (out .entry)) ⌝ }
 {
-    let SizeAnswer::Size(s) = choose_size(start_size) else {
+    let PagesAnswer::Pages(first, last) = choose_pages(start, start_size, end, end_size) else {
         return NO_SUCH_CHOICE;
-    };
-    let SizeAnswer::Size(t) = choose_size(end_size) else {
-        return NO_SUCH_CHOICE;
-    };
-    let first = Page {
-        start_address: VirtAddr(start),
-        size: s,
-    };
-    let last = Page {
-        start_address: VirtAddr(end),
-        size: t,
     };
     let range = PageRange {
         start: first,
@@ -315,19 +215,8 @@ pub extern "C" fn wuohtan_page_range_inclusive_new(
 ) -> u8
     ensures { λ r. ⌜ left r (now (out .exit)) ≡ leaves (ofSize «start_size» (ofSize «end_size» (pair (makeRange (virt 48) start «start_size» end «end_size»)))) (now (out .entry)) ⌝ }
 {
-    let SizeAnswer::Size(s) = choose_size(start_size) else {
+    let PagesAnswer::Pages(first, last) = choose_pages(start, start_size, end, end_size) else {
         return NO_SUCH_CHOICE;
-    };
-    let SizeAnswer::Size(t) = choose_size(end_size) else {
-        return NO_SUCH_CHOICE;
-    };
-    let first = Page {
-        start_address: VirtAddr(start),
-        size: s,
-    };
-    let last = Page {
-        start_address: VirtAddr(end),
-        size: t,
     };
     give_page_range_inclusive(Page::range_inclusive(first, last), out)
 }
@@ -342,19 +231,8 @@ pub extern "C" fn wuohtan_page_range_inclusive_is_empty(
 ) -> u8
     ensures { λ r. ⌜ left r (now (out .exit)) ≡ leaves (ofSize «start_size» (ofSize «end_size» (truth (emptyThrough (virt 48) start «start_size» end «end_size»)))) (now (out .entry)) ⌝ }
 {
-    let SizeAnswer::Size(s) = choose_size(start_size) else {
+    let PagesAnswer::Pages(first, last) = choose_pages(start, start_size, end, end_size) else {
         return NO_SUCH_CHOICE;
-    };
-    let SizeAnswer::Size(t) = choose_size(end_size) else {
-        return NO_SUCH_CHOICE;
-    };
-    let first = Page {
-        start_address: VirtAddr(start),
-        size: s,
-    };
-    let last = Page {
-        start_address: VirtAddr(end),
-        size: t,
     };
     let range = PageRangeInclusive {
         start: first,
@@ -373,19 +251,8 @@ pub extern "C" fn wuohtan_page_range_inclusive_len(
 ) -> u8
     ensures { λ r. ⌜ left r (now (out .exit)) ≡ leaves (ofSize «start_size» (ofSize «end_size» (word (countThrough (virt 48) start «start_size» end «end_size»)))) (now (out .entry)) ⌝ }
 {
-    let SizeAnswer::Size(s) = choose_size(start_size) else {
+    let PagesAnswer::Pages(first, last) = choose_pages(start, start_size, end, end_size) else {
         return NO_SUCH_CHOICE;
-    };
-    let SizeAnswer::Size(t) = choose_size(end_size) else {
-        return NO_SUCH_CHOICE;
-    };
-    let first = Page {
-        start_address: VirtAddr(start),
-        size: s,
-    };
-    let last = Page {
-        start_address: VirtAddr(end),
-        size: t,
     };
     let range = PageRangeInclusive {
         start: first,
@@ -404,19 +271,8 @@ pub extern "C" fn wuohtan_page_range_inclusive_size(
 ) -> u8
     ensures { λ r. ⌜ left r (now (out .exit)) ≡ leaves (ofSize «start_size» (ofSize «end_size» (word (bytesThrough (virt 48) start «start_size» end «end_size»)))) (now (out .entry)) ⌝ }
 {
-    let SizeAnswer::Size(s) = choose_size(start_size) else {
+    let PagesAnswer::Pages(first, last) = choose_pages(start, start_size, end, end_size) else {
         return NO_SUCH_CHOICE;
-    };
-    let SizeAnswer::Size(t) = choose_size(end_size) else {
-        return NO_SUCH_CHOICE;
-    };
-    let first = Page {
-        start_address: VirtAddr(start),
-        size: s,
-    };
-    let last = Page {
-        start_address: VirtAddr(end),
-        size: t,
     };
     let range = PageRangeInclusive {
         start: first,
@@ -435,19 +291,8 @@ pub extern "C" fn wuohtan_page_range_inclusive_next(
 ) -> u8
     ensures { λ r. ⌜ left r (now (out .exit)) ≡ leaves (ofSize «start_size» (ofSize «end_size» (pageDrawInclusiveWords (nthInclusiveOf 48 (pageRangeInclusiveAt start «start_size» end «end_size») 0)))) (now (out .entry)) ⌝ }
 {
-    let SizeAnswer::Size(s) = choose_size(start_size) else {
+    let PagesAnswer::Pages(first, last) = choose_pages(start, start_size, end, end_size) else {
         return NO_SUCH_CHOICE;
-    };
-    let SizeAnswer::Size(t) = choose_size(end_size) else {
-        return NO_SUCH_CHOICE;
-    };
-    let first = Page {
-        start_address: VirtAddr(start),
-        size: s,
-    };
-    let last = Page {
-        start_address: VirtAddr(end),
-        size: t,
     };
     let range = PageRangeInclusive {
         start: first,
@@ -467,19 +312,8 @@ pub extern "C" fn wuohtan_page_range_inclusive_nth(
 ) -> u8
     ensures { λ r. ⌜ left r (now (out .exit)) ≡ leaves (ofSize «start_size» (ofSize «end_size» (pageDrawInclusiveWords (nthInclusiveOf 48 (pageRangeInclusiveAt start «start_size» end «end_size») n)))) (now (out .entry)) ⌝ }
 {
-    let SizeAnswer::Size(s) = choose_size(start_size) else {
+    let PagesAnswer::Pages(first, last) = choose_pages(start, start_size, end, end_size) else {
         return NO_SUCH_CHOICE;
-    };
-    let SizeAnswer::Size(t) = choose_size(end_size) else {
-        return NO_SUCH_CHOICE;
-    };
-    let first = Page {
-        start_address: VirtAddr(start),
-        size: s,
-    };
-    let last = Page {
-        start_address: VirtAddr(end),
-        size: t,
     };
     let range = PageRangeInclusive {
         start: first,
@@ -498,19 +332,8 @@ pub extern "C" fn wuohtan_page_range_inclusive_next_back(
 ) -> u8
     ensures { λ r. ⌜ left r (now (out .exit)) ≡ leaves (ofSize «start_size» (ofSize «end_size» (pageDrawInclusiveWords (nthBackInclusiveOf 48 (pageRangeInclusiveAt start «start_size» end «end_size») 0)))) (now (out .entry)) ⌝ }
 {
-    let SizeAnswer::Size(s) = choose_size(start_size) else {
+    let PagesAnswer::Pages(first, last) = choose_pages(start, start_size, end, end_size) else {
         return NO_SUCH_CHOICE;
-    };
-    let SizeAnswer::Size(t) = choose_size(end_size) else {
-        return NO_SUCH_CHOICE;
-    };
-    let first = Page {
-        start_address: VirtAddr(start),
-        size: s,
-    };
-    let last = Page {
-        start_address: VirtAddr(end),
-        size: t,
     };
     let range = PageRangeInclusive {
         start: first,
@@ -530,19 +353,8 @@ pub extern "C" fn wuohtan_page_range_inclusive_nth_back(
 ) -> u8
     ensures { λ r. ⌜ left r (now (out .exit)) ≡ leaves (ofSize «start_size» (ofSize «end_size» (pageDrawInclusiveWords (nthBackInclusiveOf 48 (pageRangeInclusiveAt start «start_size» end «end_size») n)))) (now (out .entry)) ⌝ }
 {
-    let SizeAnswer::Size(s) = choose_size(start_size) else {
+    let PagesAnswer::Pages(first, last) = choose_pages(start, start_size, end, end_size) else {
         return NO_SUCH_CHOICE;
-    };
-    let SizeAnswer::Size(t) = choose_size(end_size) else {
-        return NO_SUCH_CHOICE;
-    };
-    let first = Page {
-        start_address: VirtAddr(start),
-        size: s,
-    };
-    let last = Page {
-        start_address: VirtAddr(end),
-        size: t,
     };
     let range = PageRangeInclusive {
         start: first,
