@@ -1,7 +1,9 @@
 // Ranges of frames, as numbers: start and end, each with its size in bytes.
-use convention::FramesAnswer;
+use convention::FrameRangeChoice;
+use convention::FrameRangeInclusiveChoice;
 use convention::NO_SUCH_CHOICE;
-use convention::choose_frames;
+use convention::choose_frame_range;
+use convention::choose_frame_range_inclusive;
 use convention::give_bool;
 use convention::give_frame_draw;
 use convention::give_frame_draw_inclusive;
@@ -9,12 +11,6 @@ use convention::give_frame_range;
 use convention::give_frame_range_inclusive;
 use convention::give_u64;
 use frame::PhysFrame;
-use frame::PhysFrameRange;
-use frame::PhysFrameRangeInclusive;
-use frame::draw_next;
-use frame::draw_next_back;
-use frame::draw_next_back_inclusive;
-use frame::draw_next_inclusive;
 use frame::draw_nth;
 use frame::draw_nth_back;
 use frame::draw_nth_back_inclusive;
@@ -37,9 +33,11 @@ pub extern "C" fn wuohtan_phys_frame_range_new(
 ) -> u8
     ensures { λ r. ⌜ left r (now (out .exit)) ≡ leaves (ofSize «start_size» (ofSize «end_size» (pair (makeRange (phys 52) start «start_size» end «end_size»)))) (now (out .entry)) ⌝ }
 {
-    let FramesAnswer::Frames(first, last) = choose_frames(start, start_size, end, end_size) else {
+    let FrameRangeChoice::Range(range) = choose_frame_range(start, start_size, end, end_size) else {
         return NO_SUCH_CHOICE;
     };
+    let first = range.start;
+    let last = range.end;
     give_frame_range(PhysFrame::range(first, last), out)
 }
 
@@ -53,12 +51,8 @@ pub extern "C" fn wuohtan_phys_frame_range_is_empty(
 ) -> u8
     ensures { λ r. ⌜ left r (now (out .exit)) ≡ leaves (ofSize «start_size» (ofSize «end_size» (truth (emptyBelow (phys 52) start «start_size» end «end_size»)))) (now (out .entry)) ⌝ }
 {
-    let FramesAnswer::Frames(first, last) = choose_frames(start, start_size, end, end_size) else {
+    let FrameRangeChoice::Range(range) = choose_frame_range(start, start_size, end, end_size) else {
         return NO_SUCH_CHOICE;
-    };
-    let range = PhysFrameRange {
-        start: first,
-        end: last,
     };
     give_bool(range.is_empty(), out)
 }
@@ -73,12 +67,8 @@ pub extern "C" fn wuohtan_phys_frame_range_len(
 ) -> u8
     ensures { λ r. ⌜ left r (now (out .exit)) ≡ leaves (ofSize «start_size» (ofSize «end_size» (word (countBelow (phys 52) start «start_size» end «end_size»)))) (now (out .entry)) ⌝ }
 {
-    let FramesAnswer::Frames(first, last) = choose_frames(start, start_size, end, end_size) else {
+    let FrameRangeChoice::Range(range) = choose_frame_range(start, start_size, end, end_size) else {
         return NO_SUCH_CHOICE;
-    };
-    let range = PhysFrameRange {
-        start: first,
-        end: last,
     };
     give_u64(range.len(), out)
 }
@@ -93,12 +83,8 @@ pub extern "C" fn wuohtan_phys_frame_range_size(
 ) -> u8
     ensures { λ r. ⌜ left r (now (out .exit)) ≡ leaves (ofSize «start_size» (ofSize «end_size» (word (bytesBelow (phys 52) start «start_size» end «end_size»)))) (now (out .entry)) ⌝ }
 {
-    let FramesAnswer::Frames(first, last) = choose_frames(start, start_size, end, end_size) else {
+    let FrameRangeChoice::Range(range) = choose_frame_range(start, start_size, end, end_size) else {
         return NO_SUCH_CHOICE;
-    };
-    let range = PhysFrameRange {
-        start: first,
-        end: last,
     };
     give_u64(range.size(), out)
 }
@@ -113,14 +99,7 @@ pub extern "C" fn wuohtan_phys_frame_range_next(
 ) -> u8
     ensures { λ r. ⌜ left r (now (out .exit)) ≡ leaves (ofSize «start_size» (ofSize «end_size» (frameDrawWords (nthOf (frameRangeAt start «start_size» end «end_size») 0)))) (now (out .entry)) ⌝ }
 {
-    let FramesAnswer::Frames(first, last) = choose_frames(start, start_size, end, end_size) else {
-        return NO_SUCH_CHOICE;
-    };
-    let range = PhysFrameRange {
-        start: first,
-        end: last,
-    };
-    give_frame_draw(draw_next(range), out)
+    wuohtan_phys_frame_range_nth(start, start_size, end, end_size, 0, out)
 }
 
 #[no_mangle]
@@ -134,12 +113,8 @@ pub extern "C" fn wuohtan_phys_frame_range_nth(
 ) -> u8
     ensures { λ r. ⌜ left r (now (out .exit)) ≡ leaves (ofSize «start_size» (ofSize «end_size» (frameDrawWords (nthOf (frameRangeAt start «start_size» end «end_size») n)))) (now (out .entry)) ⌝ }
 {
-    let FramesAnswer::Frames(first, last) = choose_frames(start, start_size, end, end_size) else {
+    let FrameRangeChoice::Range(range) = choose_frame_range(start, start_size, end, end_size) else {
         return NO_SUCH_CHOICE;
-    };
-    let range = PhysFrameRange {
-        start: first,
-        end: last,
     };
     give_frame_draw(draw_nth(range, n), out)
 }
@@ -154,14 +129,7 @@ pub extern "C" fn wuohtan_phys_frame_range_next_back(
 ) -> u8
     ensures { λ r. ⌜ left r (now (out .exit)) ≡ leaves (ofSize «start_size» (ofSize «end_size» (frameDrawWords (nthBackOf (frameRangeAt start «start_size» end «end_size») 0)))) (now (out .entry)) ⌝ }
 {
-    let FramesAnswer::Frames(first, last) = choose_frames(start, start_size, end, end_size) else {
-        return NO_SUCH_CHOICE;
-    };
-    let range = PhysFrameRange {
-        start: first,
-        end: last,
-    };
-    give_frame_draw(draw_next_back(range), out)
+    wuohtan_phys_frame_range_nth_back(start, start_size, end, end_size, 0, out)
 }
 
 #[no_mangle]
@@ -175,12 +143,8 @@ pub extern "C" fn wuohtan_phys_frame_range_nth_back(
 ) -> u8
     ensures { λ r. ⌜ left r (now (out .exit)) ≡ leaves (ofSize «start_size» (ofSize «end_size» (frameDrawWords (nthBackOf (frameRangeAt start «start_size» end «end_size») n)))) (now (out .entry)) ⌝ }
 {
-    let FramesAnswer::Frames(first, last) = choose_frames(start, start_size, end, end_size) else {
+    let FrameRangeChoice::Range(range) = choose_frame_range(start, start_size, end, end_size) else {
         return NO_SUCH_CHOICE;
-    };
-    let range = PhysFrameRange {
-        start: first,
-        end: last,
     };
     give_frame_draw(draw_nth_back(range, n), out)
 }
@@ -195,9 +159,16 @@ pub extern "C" fn wuohtan_phys_frame_range_inclusive_new(
 ) -> u8
     ensures { λ r. ⌜ left r (now (out .exit)) ≡ leaves (ofSize «start_size» (ofSize «end_size» (pair (makeRange (phys 52) start «start_size» end «end_size»)))) (now (out .entry)) ⌝ }
 {
-    let FramesAnswer::Frames(first, last) = choose_frames(start, start_size, end, end_size) else {
+    let FrameRangeInclusiveChoice::Range(range) = choose_frame_range_inclusive(
+        start,
+        start_size,
+        end,
+        end_size,
+    ) else {
         return NO_SUCH_CHOICE;
     };
+    let first = range.start;
+    let last = range.end;
     give_frame_range_inclusive(PhysFrame::range_inclusive(first, last), out)
 }
 
@@ -211,12 +182,13 @@ pub extern "C" fn wuohtan_phys_frame_range_inclusive_is_empty(
 ) -> u8
     ensures { λ r. ⌜ left r (now (out .exit)) ≡ leaves (ofSize «start_size» (ofSize «end_size» (truth (emptyThrough (phys 52) start «start_size» end «end_size»)))) (now (out .entry)) ⌝ }
 {
-    let FramesAnswer::Frames(first, last) = choose_frames(start, start_size, end, end_size) else {
+    let FrameRangeInclusiveChoice::Range(range) = choose_frame_range_inclusive(
+        start,
+        start_size,
+        end,
+        end_size,
+    ) else {
         return NO_SUCH_CHOICE;
-    };
-    let range = PhysFrameRangeInclusive {
-        start: first,
-        end: last,
     };
     give_bool(range.is_empty(), out)
 }
@@ -231,12 +203,13 @@ pub extern "C" fn wuohtan_phys_frame_range_inclusive_len(
 ) -> u8
     ensures { λ r. ⌜ left r (now (out .exit)) ≡ leaves (ofSize «start_size» (ofSize «end_size» (word (countThrough (phys 52) start «start_size» end «end_size»)))) (now (out .entry)) ⌝ }
 {
-    let FramesAnswer::Frames(first, last) = choose_frames(start, start_size, end, end_size) else {
+    let FrameRangeInclusiveChoice::Range(range) = choose_frame_range_inclusive(
+        start,
+        start_size,
+        end,
+        end_size,
+    ) else {
         return NO_SUCH_CHOICE;
-    };
-    let range = PhysFrameRangeInclusive {
-        start: first,
-        end: last,
     };
     give_u64(range.len(), out)
 }
@@ -251,12 +224,13 @@ pub extern "C" fn wuohtan_phys_frame_range_inclusive_size(
 ) -> u8
     ensures { λ r. ⌜ left r (now (out .exit)) ≡ leaves (ofSize «start_size» (ofSize «end_size» (word (bytesThrough (phys 52) start «start_size» end «end_size»)))) (now (out .entry)) ⌝ }
 {
-    let FramesAnswer::Frames(first, last) = choose_frames(start, start_size, end, end_size) else {
+    let FrameRangeInclusiveChoice::Range(range) = choose_frame_range_inclusive(
+        start,
+        start_size,
+        end,
+        end_size,
+    ) else {
         return NO_SUCH_CHOICE;
-    };
-    let range = PhysFrameRangeInclusive {
-        start: first,
-        end: last,
     };
     give_u64(range.size(), out)
 }
@@ -271,14 +245,7 @@ pub extern "C" fn wuohtan_phys_frame_range_inclusive_next(
 ) -> u8
     ensures { λ r. ⌜ left r (now (out .exit)) ≡ leaves (ofSize «start_size» (ofSize «end_size» (frameDrawInclusiveWords (nthInclusiveOf (frameRangeInclusiveAt start «start_size» end «end_size») 0)))) (now (out .entry)) ⌝ }
 {
-    let FramesAnswer::Frames(first, last) = choose_frames(start, start_size, end, end_size) else {
-        return NO_SUCH_CHOICE;
-    };
-    let range = PhysFrameRangeInclusive {
-        start: first,
-        end: last,
-    };
-    give_frame_draw_inclusive(draw_next_inclusive(range), out)
+    wuohtan_phys_frame_range_inclusive_nth(start, start_size, end, end_size, 0, out)
 }
 
 #[no_mangle]
@@ -292,12 +259,13 @@ pub extern "C" fn wuohtan_phys_frame_range_inclusive_nth(
 ) -> u8
     ensures { λ r. ⌜ left r (now (out .exit)) ≡ leaves (ofSize «start_size» (ofSize «end_size» (frameDrawInclusiveWords (nthInclusiveOf (frameRangeInclusiveAt start «start_size» end «end_size») n)))) (now (out .entry)) ⌝ }
 {
-    let FramesAnswer::Frames(first, last) = choose_frames(start, start_size, end, end_size) else {
+    let FrameRangeInclusiveChoice::Range(range) = choose_frame_range_inclusive(
+        start,
+        start_size,
+        end,
+        end_size,
+    ) else {
         return NO_SUCH_CHOICE;
-    };
-    let range = PhysFrameRangeInclusive {
-        start: first,
-        end: last,
     };
     give_frame_draw_inclusive(draw_nth_inclusive(range, n), out)
 }
@@ -312,14 +280,7 @@ pub extern "C" fn wuohtan_phys_frame_range_inclusive_next_back(
 ) -> u8
     ensures { λ r. ⌜ left r (now (out .exit)) ≡ leaves (ofSize «start_size» (ofSize «end_size» (frameDrawInclusiveWords (nthBackInclusiveOf (frameRangeInclusiveAt start «start_size» end «end_size») 0)))) (now (out .entry)) ⌝ }
 {
-    let FramesAnswer::Frames(first, last) = choose_frames(start, start_size, end, end_size) else {
-        return NO_SUCH_CHOICE;
-    };
-    let range = PhysFrameRangeInclusive {
-        start: first,
-        end: last,
-    };
-    give_frame_draw_inclusive(draw_next_back_inclusive(range), out)
+    wuohtan_phys_frame_range_inclusive_nth_back(start, start_size, end, end_size, 0, out)
 }
 
 #[no_mangle]
@@ -333,12 +294,13 @@ pub extern "C" fn wuohtan_phys_frame_range_inclusive_nth_back(
 ) -> u8
     ensures { λ r. ⌜ left r (now (out .exit)) ≡ leaves (ofSize «start_size» (ofSize «end_size» (frameDrawInclusiveWords (nthBackInclusiveOf (frameRangeInclusiveAt start «start_size» end «end_size») n)))) (now (out .entry)) ⌝ }
 {
-    let FramesAnswer::Frames(first, last) = choose_frames(start, start_size, end, end_size) else {
+    let FrameRangeInclusiveChoice::Range(range) = choose_frame_range_inclusive(
+        start,
+        start_size,
+        end,
+        end_size,
+    ) else {
         return NO_SUCH_CHOICE;
-    };
-    let range = PhysFrameRangeInclusive {
-        start: first,
-        end: last,
     };
     give_frame_draw_inclusive(draw_nth_back_inclusive(range, n), out)
 }
