@@ -60,6 +60,9 @@ pub fn give_search(answer: SearchAnswer, out: &mut [u64]) -> u8
     }
 }
 
+// How many words `give_listed` stores.
+pub const LISTED_WORDS: usize = 3;
+
 pub fn give_listed(answer: ListAnswer, out: &mut [u64]) -> u8
     ensures { λ r. ⌜ left r (now (out .exit)) ≡ leaves (listed (listedOf answer)) (now (out .entry)) ⌝ }
 {

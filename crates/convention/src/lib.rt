@@ -23,6 +23,7 @@ pub use choose::choose_page_range;
 pub use choose::choose_page_range_inclusive;
 pub use choose::choose_size;
 pub use choose::saturated;
+pub use images::LISTED_WORDS;
 pub use images::give_listed;
 pub use images::give_search;
 pub use images::give_translation;

@@ -1,6 +1,7 @@
 // Translation, the run search, and lists of searches.
 use addr::PhysAddr;
 use addr::VirtAddr;
+use convention::LISTED_WORDS;
 use convention::NO_ROOM;
 use convention::give_listed;
 use convention::give_search;
@@ -59,7 +60,7 @@ pub extern "C" fn wuohtan_list(
 ) -> u8
     ensures { λ r. ⌜ leftList (now (answers .exit)) r (now (out .exit)) ≡ leavesList (listing 48 4 (now (image .entry)) base root page (now (answers .entry))) (now (answers .entry)) (now (out .entry)) ⌝ }
 {
-    if out.len() < 3 {
+    if out.len() < LISTED_WORDS {
         return NO_ROOM;
     }
     let listed = list(
