@@ -1,3 +1,4 @@
+pub mod Status
 pub mod Convention
 pub mod Choice
 pub mod Ranges

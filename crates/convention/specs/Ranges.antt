@@ -1,7 +1,7 @@
 -- Ranges and draws in the convention: a range is two words, a draw four.
 use Prim.Native.Nat.{ℕ}
 use mathlib.Core.List.{List, [], _∷_}
-use Rattle.answer.specs.Outcome.{Outcome, gives, none, refuses}
+use Rattle.answer.specs.Outcome.{Outcome, gives, refuses}
 use Rattle.addr.specs.Range.{Ends}
 use Rattle.frame.specs.declared.frame.FrameAnswer.{FrameAnswer}
 use Rattle.frame.specs.declared.frame.FrameAnswer.the-variants as frame
@@ -17,13 +17,12 @@ use Rattle.page.specs.declared.range.PageRange.{PageRange}
 use Rattle.page.specs.declared.range_inclusive.PageRangeInclusive.{PageRangeInclusive}
 use Rattle.frame.specs.Range.{frameAt}
 use Rattle.page.specs.Range.{pageAt}
+use Rattle.convention.specs.Convention.{inWords}
 use Rattle.convention.specs.Choice.{sizeWith}
 
 -- start and end
 abbrev pub pair : Outcome Ends → Outcome (List ℕ)
-pair (gives e) = gives (e .first .start ∷ e .last .start ∷ [])
-pair none = none
-pair (refuses k) = refuses k
+pair o = inWords (λ e. e .first .start ∷ e .last .start ∷ []) o
 
 -- 1 and the item, or 0 and 0; then start and end of the range left, `a` and `b`
 abbrev pub frameWords : FrameAnswer → ℕ → ℕ → Outcome (List ℕ)

@@ -1,21 +1,19 @@
 // Translations and searches, stored.
-use crate::ranges::give_four;
-use crate::status::ANSWERED;
-use crate::status::NO_ROOM;
+use crate::words::give_five;
+use crate::words::give_four;
+use crate::words::give_three;
 use image::ListAnswer;
 use image::Rights;
 use image::SearchAnswer;
 use image::StopReason;
 use image::TranslateAnswer;
 ghost use mathlib.Core.Path.{_≡_};
-ghost use mathlib.Core.List.{[], _∷_};
-ghost use Rattle.answer.specs.Outcome.{gives};
 ghost use Rattle.image.specs.List.{listedOf};
 ghost use Rattle.image.specs.Packed.{rightsBits};
 ghost use Rattle.image.specs.Search.{reportOf};
 ghost use Rattle.image.specs.Translate.{rightsHeld, translationOf};
 ghost use Rattle.convention.specs.Convention.{left, leaves};
-ghost use Rattle.convention.specs.Images.{translation, report, listed};
+ghost use Rattle.convention.specs.Images.{translationWords, searchWords, listed};
 
 // The rights as bits: 1 writable, 2 user, 4 no-execute.
 fn bits_of(rights: Rights) -> u64
@@ -27,23 +25,8 @@ fn bits_of(rights: Rights) -> u64
     w + 2 * u + 4 * x
 }
 
-// Stores five words.
-fn give_five(a: u64, b: u64, c: u64, d: u64, e: u64, out: &mut [u64]) -> u8
-    ensures { λ r. ⌜ left r (now (out .exit)) ≡ leaves (gives (a ∷ b ∷ c ∷ d ∷ e ∷ [])) (now (out .entry)) ⌝ }
-{
-    if out.len() < 5 {
-        return NO_ROOM;
-    }
-    out[0] = a;
-    out[1] = b;
-    out[2] = c;
-    out[3] = d;
-    out[4] = e;
-    ANSWERED
-}
-
 pub fn give_translation(answer: TranslateAnswer, out: &mut [u64]) -> u8
-    ensures { λ r. ⌜ left r (now (out .exit)) ≡ leaves (translation (translationOf answer)) (now (out .entry)) ⌝ }
+    ensures { λ r. ⌜ left r (now (out .exit)) ≡ leaves (translationWords (translationOf answer)) (now (out .entry)) ⌝ }
 {
     match answer {
         TranslateAnswer::Mapped(address, size, rights) => {
@@ -57,7 +40,7 @@ pub fn give_translation(answer: TranslateAnswer, out: &mut [u64]) -> u8
 }
 
 pub fn give_search(answer: SearchAnswer, out: &mut [u64]) -> u8
-    ensures { λ r. ⌜ left r (now (out .exit)) ≡ leaves (report (reportOf answer)) (now (out .entry)) ⌝ }
+    ensures { λ r. ⌜ left r (now (out .exit)) ≡ leaves (searchWords (reportOf answer)) (now (out .entry)) ⌝ }
 {
     match answer {
         SearchAnswer::End => give_five(0, 0, 0, 0, 0, out),
@@ -77,18 +60,8 @@ pub fn give_search(answer: SearchAnswer, out: &mut [u64]) -> u8
     }
 }
 
-// Stores three words.
-fn give_three(a: u64, b: u64, c: u64, out: &mut [u64]) -> u8
-    ensures { λ r. ⌜ left r (now (out .exit)) ≡ leaves (gives (a ∷ b ∷ c ∷ [])) (now (out .entry)) ⌝ }
-{
-    if out.len() < 3 {
-        return NO_ROOM;
-    }
-    out[0] = a;
-    out[1] = b;
-    out[2] = c;
-    ANSWERED
-}
+// How many words `give_listed` stores.
+pub const LISTED_WORDS: usize = 3;
 
 pub fn give_listed(answer: ListAnswer, out: &mut [u64]) -> u8
     ensures { λ r. ⌜ left r (now (out .exit)) ≡ leaves (listed (listedOf answer)) (now (out .entry)) ⌝ }

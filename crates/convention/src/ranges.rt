@@ -1,6 +1,6 @@
 // Ranges and draws, stored.
-use crate::status::ANSWERED;
-use crate::status::NO_ROOM;
+use crate::words::give_four;
+use crate::words::give_two;
 use frame::FrameAnswer;
 use frame::FrameDraw;
 use frame::FrameDrawInclusive;
@@ -12,38 +12,10 @@ use page::PageDrawInclusive;
 use page::PageRangeAnswer;
 use page::PageRangeInclusiveAnswer;
 ghost use mathlib.Core.Path.{_≡_};
-ghost use mathlib.Core.List.{[], _∷_};
-ghost use Rattle.answer.specs.Outcome.{gives};
 ghost use Rattle.frame.specs.Range.{rangeOf, rangeInclusiveOf};
 ghost use Rattle.page.specs.Range.{rangeOf as Page·rangeOf, rangeInclusiveOf as Page·rangeInclusiveOf};
 ghost use Rattle.convention.specs.Convention.{left, leaves};
 ghost use Rattle.convention.specs.Ranges.{pair, frameWords, pageWords, frameDrawWords, frameDrawInclusiveWords, pageDrawWords, pageDrawInclusiveWords};
-
-// Stores two words.
-pub fn give_two(a: u64, b: u64, out: &mut [u64]) -> u8
-    ensures { λ r. ⌜ left r (now (out .exit)) ≡ leaves (gives (a ∷ b ∷ [])) (now (out .entry)) ⌝ }
-{
-    if out.len() < 2 {
-        return NO_ROOM;
-    }
-    out[0] = a;
-    out[1] = b;
-    ANSWERED
-}
-
-// Stores four words.
-pub fn give_four(a: u64, b: u64, c: u64, d: u64, out: &mut [u64]) -> u8
-    ensures { λ r. ⌜ left r (now (out .exit)) ≡ leaves (gives (a ∷ b ∷ c ∷ d ∷ [])) (now (out .entry)) ⌝ }
-{
-    if out.len() < 4 {
-        return NO_ROOM;
-    }
-    out[0] = a;
-    out[1] = b;
-    out[2] = c;
-    out[3] = d;
-    ANSWERED
-}
 
 pub fn give_frame_range(answer: FrameRangeAnswer, out: &mut [u64]) -> u8
     ensures { λ r. ⌜ left r (now (out .exit)) ≡ leaves (pair (rangeOf answer)) (now (out .entry)) ⌝ }

@@ -1,7 +1,6 @@
 // Answers, stored: each gives its status, and its words at the start of the lent slice.
-use crate::status::ANSWERED;
-use crate::status::NO_ROOM;
 use crate::status::NONE;
+use crate::words::give;
 use addr::PhysAnswer;
 use addr::VirtAnswer;
 use answer::BoolAnswer;
@@ -12,25 +11,12 @@ use table::IndexAnswer;
 use table::LevelAnswer;
 use table::OffsetAnswer;
 ghost use mathlib.Core.Path.{_≡_};
-ghost use mathlib.Core.List.{[], _∷_};
-ghost use Rattle.answer.specs.Outcome.{gives};
 ghost use Rattle.answer.specs.Answers.{u64Of, boolOf};
 ghost use Rattle.table.specs.Answers.{indexOf, offsetOf, levelAnswerOf};
 ghost use Rattle.addr.specs.Answers.{virtOf, physOf};
 ghost use Rattle.frame.specs.Frame.{frameOf};
 ghost use Rattle.page.specs.Page.{pageOf};
 ghost use Rattle.convention.specs.Convention.{left, leaves, word, truth, startWord};
-
-// Stores one word.
-pub fn give(value: u64, out: &mut [u64]) -> u8
-    ensures { λ r. ⌜ left r (now (out .exit)) ≡ leaves (gives (value ∷ [])) (now (out .entry)) ⌝ }
-{
-    if out.len() < 1 {
-        return NO_ROOM;
-    }
-    out[0] = value;
-    ANSWERED
-}
 
 pub fn give_u64(answer: U64Answer, out: &mut [u64]) -> u8
     ensures { λ r. ⌜ left r (now (out .exit)) ≡ leaves (word (u64Of answer)) (now (out .entry)) ⌝ }

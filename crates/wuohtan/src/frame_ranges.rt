@@ -1,8 +1,9 @@
 // Ranges of frames, as numbers: start and end, each with its size in bytes.
-use addr::PhysAddr;
+use convention::FrameRangeChoice;
+use convention::FrameRangeInclusiveChoice;
 use convention::NO_SUCH_CHOICE;
-use convention::SizeAnswer;
-use convention::choose_size;
+use convention::choose_frame_range;
+use convention::choose_frame_range_inclusive;
 use convention::give_bool;
 use convention::give_frame_draw;
 use convention::give_frame_draw_inclusive;
@@ -10,12 +11,6 @@ use convention::give_frame_range;
 use convention::give_frame_range_inclusive;
 use convention::give_u64;
 use frame::PhysFrame;
-use frame::PhysFrameRange;
-use frame::PhysFrameRangeInclusive;
-use frame::draw_next;
-use frame::draw_next_back;
-use frame::draw_next_back_inclusive;
-use frame::draw_next_inclusive;
 use frame::draw_nth;
 use frame::draw_nth_back;
 use frame::draw_nth_back_inclusive;
@@ -38,20 +33,11 @@ pub extern "C" fn wuohtan_phys_frame_range_new(
 ) -> u8
     ensures { λ r. ⌜ left r (now (out .exit)) ≡ leaves (ofSize «start_size» (ofSize «end_size» (pair (makeRange (phys 52) start «start_size» end «end_size»)))) (now (out .entry)) ⌝ }
 {
-    let SizeAnswer::Size(s) = choose_size(start_size) else {
+    let FrameRangeChoice::Range(range) = choose_frame_range(start, start_size, end, end_size) else {
         return NO_SUCH_CHOICE;
     };
-    let SizeAnswer::Size(t) = choose_size(end_size) else {
-        return NO_SUCH_CHOICE;
-    };
-    let first = PhysFrame {
-        start_address: PhysAddr(start),
-        size: s,
-    };
-    let last = PhysFrame {
-        start_address: PhysAddr(end),
-        size: t,
-    };
+    let first = range.start;
+    let last = range.end;
     give_frame_range(PhysFrame::range(first, last), out)
 }
 
@@ -65,23 +51,8 @@ pub extern "C" fn wuohtan_phys_frame_range_is_empty(
 ) -> u8
     ensures { λ r. ⌜ left r (now (out .exit)) ≡ leaves (ofSize «start_size» (ofSize «end_size» (truth (emptyBelow (phys 52) start «start_size» end «end_size»)))) (now (out .entry)) ⌝ }
 {
-    let SizeAnswer::Size(s) = choose_size(start_size) else {
+    let FrameRangeChoice::Range(range) = choose_frame_range(start, start_size, end, end_size) else {
         return NO_SUCH_CHOICE;
-    };
-    let SizeAnswer::Size(t) = choose_size(end_size) else {
-        return NO_SUCH_CHOICE;
-    };
-    let first = PhysFrame {
-        start_address: PhysAddr(start),
-        size: s,
-    };
-    let last = PhysFrame {
-        start_address: PhysAddr(end),
-        size: t,
-    };
-    let range = PhysFrameRange {
-        start: first,
-        end: last,
     };
     give_bool(range.is_empty(), out)
 }
@@ -96,23 +67,8 @@ pub extern "C" fn wuohtan_phys_frame_range_len(
 ) -> u8
     ensures { λ r. ⌜ left r (now (out .exit)) ≡ leaves (ofSize «start_size» (ofSize «end_size» (word (countBelow (phys 52) start «start_size» end «end_size»)))) (now (out .entry)) ⌝ }
 {
-    let SizeAnswer::Size(s) = choose_size(start_size) else {
+    let FrameRangeChoice::Range(range) = choose_frame_range(start, start_size, end, end_size) else {
         return NO_SUCH_CHOICE;
-    };
-    let SizeAnswer::Size(t) = choose_size(end_size) else {
-        return NO_SUCH_CHOICE;
-    };
-    let first = PhysFrame {
-        start_address: PhysAddr(start),
-        size: s,
-    };
-    let last = PhysFrame {
-        start_address: PhysAddr(end),
-        size: t,
-    };
-    let range = PhysFrameRange {
-        start: first,
-        end: last,
     };
     give_u64(range.len(), out)
 }
@@ -127,23 +83,8 @@ pub extern "C" fn wuohtan_phys_frame_range_size(
 ) -> u8
     ensures { λ r. ⌜ left r (now (out .exit)) ≡ leaves (ofSize «start_size» (ofSize «end_size» (word (bytesBelow (phys 52) start «start_size» end «end_size»)))) (now (out .entry)) ⌝ }
 {
-    let SizeAnswer::Size(s) = choose_size(start_size) else {
+    let FrameRangeChoice::Range(range) = choose_frame_range(start, start_size, end, end_size) else {
         return NO_SUCH_CHOICE;
-    };
-    let SizeAnswer::Size(t) = choose_size(end_size) else {
-        return NO_SUCH_CHOICE;
-    };
-    let first = PhysFrame {
-        start_address: PhysAddr(start),
-        size: s,
-    };
-    let last = PhysFrame {
-        start_address: PhysAddr(end),
-        size: t,
-    };
-    let range = PhysFrameRange {
-        start: first,
-        end: last,
     };
     give_u64(range.size(), out)
 }
@@ -158,25 +99,7 @@ pub extern "C" fn wuohtan_phys_frame_range_next(
 ) -> u8
     ensures { λ r. ⌜ left r (now (out .exit)) ≡ leaves (ofSize «start_size» (ofSize «end_size» (frameDrawWords (nthOf (frameRangeAt start «start_size» end «end_size») 0)))) (now (out .entry)) ⌝ }
 {
-    let SizeAnswer::Size(s) = choose_size(start_size) else {
-        return NO_SUCH_CHOICE;
-    };
-    let SizeAnswer::Size(t) = choose_size(end_size) else {
-        return NO_SUCH_CHOICE;
-    };
-    let first = PhysFrame {
-        start_address: PhysAddr(start),
-        size: s,
-    };
-    let last = PhysFrame {
-        start_address: PhysAddr(end),
-        size: t,
-    };
-    let range = PhysFrameRange {
-        start: first,
-        end: last,
-    };
-    give_frame_draw(draw_next(range), out)
+    wuohtan_phys_frame_range_nth(start, start_size, end, end_size, 0, out)
 }
 
 #[no_mangle]
@@ -190,23 +113,8 @@ pub extern "C" fn wuohtan_phys_frame_range_nth(
 ) -> u8
     ensures { λ r. ⌜ left r (now (out .exit)) ≡ leaves (ofSize «start_size» (ofSize «end_size» (frameDrawWords (nthOf (frameRangeAt start «start_size» end «end_size») n)))) (now (out .entry)) ⌝ }
 {
-    let SizeAnswer::Size(s) = choose_size(start_size) else {
+    let FrameRangeChoice::Range(range) = choose_frame_range(start, start_size, end, end_size) else {
         return NO_SUCH_CHOICE;
-    };
-    let SizeAnswer::Size(t) = choose_size(end_size) else {
-        return NO_SUCH_CHOICE;
-    };
-    let first = PhysFrame {
-        start_address: PhysAddr(start),
-        size: s,
-    };
-    let last = PhysFrame {
-        start_address: PhysAddr(end),
-        size: t,
-    };
-    let range = PhysFrameRange {
-        start: first,
-        end: last,
     };
     give_frame_draw(draw_nth(range, n), out)
 }
@@ -221,25 +129,7 @@ pub extern "C" fn wuohtan_phys_frame_range_next_back(
 ) -> u8
     ensures { λ r. ⌜ left r (now (out .exit)) ≡ leaves (ofSize «start_size» (ofSize «end_size» (frameDrawWords (nthBackOf (frameRangeAt start «start_size» end «end_size») 0)))) (now (out .entry)) ⌝ }
 {
-    let SizeAnswer::Size(s) = choose_size(start_size) else {
-        return NO_SUCH_CHOICE;
-    };
-    let SizeAnswer::Size(t) = choose_size(end_size) else {
-        return NO_SUCH_CHOICE;
-    };
-    let first = PhysFrame {
-        start_address: PhysAddr(start),
-        size: s,
-    };
-    let last = PhysFrame {
-        start_address: PhysAddr(end),
-        size: t,
-    };
-    let range = PhysFrameRange {
-        start: first,
-        end: last,
-    };
-    give_frame_draw(draw_next_back(range), out)
+    wuohtan_phys_frame_range_nth_back(start, start_size, end, end_size, 0, out)
 }
 
 #[no_mangle]
@@ -253,23 +143,8 @@ pub extern "C" fn wuohtan_phys_frame_range_nth_back(
 ) -> u8
     ensures { λ r. ⌜ left r (now (out .exit)) ≡ leaves (ofSize «start_size» (ofSize «end_size» (frameDrawWords (nthBackOf (frameRangeAt start «start_size» end «end_size») n)))) (now (out .entry)) ⌝ }
 {
-    let SizeAnswer::Size(s) = choose_size(start_size) else {
+    let FrameRangeChoice::Range(range) = choose_frame_range(start, start_size, end, end_size) else {
         return NO_SUCH_CHOICE;
-    };
-    let SizeAnswer::Size(t) = choose_size(end_size) else {
-        return NO_SUCH_CHOICE;
-    };
-    let first = PhysFrame {
-        start_address: PhysAddr(start),
-        size: s,
-    };
-    let last = PhysFrame {
-        start_address: PhysAddr(end),
-        size: t,
-    };
-    let range = PhysFrameRange {
-        start: first,
-        end: last,
     };
     give_frame_draw(draw_nth_back(range, n), out)
 }
@@ -284,20 +159,16 @@ pub extern "C" fn wuohtan_phys_frame_range_inclusive_new(
 ) -> u8
     ensures { λ r. ⌜ left r (now (out .exit)) ≡ leaves (ofSize «start_size» (ofSize «end_size» (pair (makeRange (phys 52) start «start_size» end «end_size»)))) (now (out .entry)) ⌝ }
 {
-    let SizeAnswer::Size(s) = choose_size(start_size) else {
+    let FrameRangeInclusiveChoice::Range(range) = choose_frame_range_inclusive(
+        start,
+        start_size,
+        end,
+        end_size,
+    ) else {
         return NO_SUCH_CHOICE;
     };
-    let SizeAnswer::Size(t) = choose_size(end_size) else {
-        return NO_SUCH_CHOICE;
-    };
-    let first = PhysFrame {
-        start_address: PhysAddr(start),
-        size: s,
-    };
-    let last = PhysFrame {
-        start_address: PhysAddr(end),
-        size: t,
-    };
+    let first = range.start;
+    let last = range.end;
     give_frame_range_inclusive(PhysFrame::range_inclusive(first, last), out)
 }
 
@@ -311,23 +182,13 @@ pub extern "C" fn wuohtan_phys_frame_range_inclusive_is_empty(
 ) -> u8
     ensures { λ r. ⌜ left r (now (out .exit)) ≡ leaves (ofSize «start_size» (ofSize «end_size» (truth (emptyThrough (phys 52) start «start_size» end «end_size»)))) (now (out .entry)) ⌝ }
 {
-    let SizeAnswer::Size(s) = choose_size(start_size) else {
+    let FrameRangeInclusiveChoice::Range(range) = choose_frame_range_inclusive(
+        start,
+        start_size,
+        end,
+        end_size,
+    ) else {
         return NO_SUCH_CHOICE;
-    };
-    let SizeAnswer::Size(t) = choose_size(end_size) else {
-        return NO_SUCH_CHOICE;
-    };
-    let first = PhysFrame {
-        start_address: PhysAddr(start),
-        size: s,
-    };
-    let last = PhysFrame {
-        start_address: PhysAddr(end),
-        size: t,
-    };
-    let range = PhysFrameRangeInclusive {
-        start: first,
-        end: last,
     };
     give_bool(range.is_empty(), out)
 }
@@ -342,23 +203,13 @@ pub extern "C" fn wuohtan_phys_frame_range_inclusive_len(
 ) -> u8
     ensures { λ r. ⌜ left r (now (out .exit)) ≡ leaves (ofSize «start_size» (ofSize «end_size» (word (countThrough (phys 52) start «start_size» end «end_size»)))) (now (out .entry)) ⌝ }
 {
-    let SizeAnswer::Size(s) = choose_size(start_size) else {
+    let FrameRangeInclusiveChoice::Range(range) = choose_frame_range_inclusive(
+        start,
+        start_size,
+        end,
+        end_size,
+    ) else {
         return NO_SUCH_CHOICE;
-    };
-    let SizeAnswer::Size(t) = choose_size(end_size) else {
-        return NO_SUCH_CHOICE;
-    };
-    let first = PhysFrame {
-        start_address: PhysAddr(start),
-        size: s,
-    };
-    let last = PhysFrame {
-        start_address: PhysAddr(end),
-        size: t,
-    };
-    let range = PhysFrameRangeInclusive {
-        start: first,
-        end: last,
     };
     give_u64(range.len(), out)
 }
@@ -373,23 +224,13 @@ pub extern "C" fn wuohtan_phys_frame_range_inclusive_size(
 ) -> u8
     ensures { λ r. ⌜ left r (now (out .exit)) ≡ leaves (ofSize «start_size» (ofSize «end_size» (word (bytesThrough (phys 52) start «start_size» end «end_size»)))) (now (out .entry)) ⌝ }
 {
-    let SizeAnswer::Size(s) = choose_size(start_size) else {
+    let FrameRangeInclusiveChoice::Range(range) = choose_frame_range_inclusive(
+        start,
+        start_size,
+        end,
+        end_size,
+    ) else {
         return NO_SUCH_CHOICE;
-    };
-    let SizeAnswer::Size(t) = choose_size(end_size) else {
-        return NO_SUCH_CHOICE;
-    };
-    let first = PhysFrame {
-        start_address: PhysAddr(start),
-        size: s,
-    };
-    let last = PhysFrame {
-        start_address: PhysAddr(end),
-        size: t,
-    };
-    let range = PhysFrameRangeInclusive {
-        start: first,
-        end: last,
     };
     give_u64(range.size(), out)
 }
@@ -404,25 +245,7 @@ pub extern "C" fn wuohtan_phys_frame_range_inclusive_next(
 ) -> u8
     ensures { λ r. ⌜ left r (now (out .exit)) ≡ leaves (ofSize «start_size» (ofSize «end_size» (frameDrawInclusiveWords (nthInclusiveOf (frameRangeInclusiveAt start «start_size» end «end_size») 0)))) (now (out .entry)) ⌝ }
 {
-    let SizeAnswer::Size(s) = choose_size(start_size) else {
-        return NO_SUCH_CHOICE;
-    };
-    let SizeAnswer::Size(t) = choose_size(end_size) else {
-        return NO_SUCH_CHOICE;
-    };
-    let first = PhysFrame {
-        start_address: PhysAddr(start),
-        size: s,
-    };
-    let last = PhysFrame {
-        start_address: PhysAddr(end),
-        size: t,
-    };
-    let range = PhysFrameRangeInclusive {
-        start: first,
-        end: last,
-    };
-    give_frame_draw_inclusive(draw_next_inclusive(range), out)
+    wuohtan_phys_frame_range_inclusive_nth(start, start_size, end, end_size, 0, out)
 }
 
 #[no_mangle]
@@ -436,23 +259,13 @@ pub extern "C" fn wuohtan_phys_frame_range_inclusive_nth(
 ) -> u8
     ensures { λ r. ⌜ left r (now (out .exit)) ≡ leaves (ofSize «start_size» (ofSize «end_size» (frameDrawInclusiveWords (nthInclusiveOf (frameRangeInclusiveAt start «start_size» end «end_size») n)))) (now (out .entry)) ⌝ }
 {
-    let SizeAnswer::Size(s) = choose_size(start_size) else {
+    let FrameRangeInclusiveChoice::Range(range) = choose_frame_range_inclusive(
+        start,
+        start_size,
+        end,
+        end_size,
+    ) else {
         return NO_SUCH_CHOICE;
-    };
-    let SizeAnswer::Size(t) = choose_size(end_size) else {
-        return NO_SUCH_CHOICE;
-    };
-    let first = PhysFrame {
-        start_address: PhysAddr(start),
-        size: s,
-    };
-    let last = PhysFrame {
-        start_address: PhysAddr(end),
-        size: t,
-    };
-    let range = PhysFrameRangeInclusive {
-        start: first,
-        end: last,
     };
     give_frame_draw_inclusive(draw_nth_inclusive(range, n), out)
 }
@@ -467,25 +280,7 @@ pub extern "C" fn wuohtan_phys_frame_range_inclusive_next_back(
 ) -> u8
     ensures { λ r. ⌜ left r (now (out .exit)) ≡ leaves (ofSize «start_size» (ofSize «end_size» (frameDrawInclusiveWords (nthBackInclusiveOf (frameRangeInclusiveAt start «start_size» end «end_size») 0)))) (now (out .entry)) ⌝ }
 {
-    let SizeAnswer::Size(s) = choose_size(start_size) else {
-        return NO_SUCH_CHOICE;
-    };
-    let SizeAnswer::Size(t) = choose_size(end_size) else {
-        return NO_SUCH_CHOICE;
-    };
-    let first = PhysFrame {
-        start_address: PhysAddr(start),
-        size: s,
-    };
-    let last = PhysFrame {
-        start_address: PhysAddr(end),
-        size: t,
-    };
-    let range = PhysFrameRangeInclusive {
-        start: first,
-        end: last,
-    };
-    give_frame_draw_inclusive(draw_next_back_inclusive(range), out)
+    wuohtan_phys_frame_range_inclusive_nth_back(start, start_size, end, end_size, 0, out)
 }
 
 #[no_mangle]
@@ -499,23 +294,13 @@ pub extern "C" fn wuohtan_phys_frame_range_inclusive_nth_back(
 ) -> u8
     ensures { λ r. ⌜ left r (now (out .exit)) ≡ leaves (ofSize «start_size» (ofSize «end_size» (frameDrawInclusiveWords (nthBackInclusiveOf (frameRangeInclusiveAt start «start_size» end «end_size») n)))) (now (out .entry)) ⌝ }
 {
-    let SizeAnswer::Size(s) = choose_size(start_size) else {
+    let FrameRangeInclusiveChoice::Range(range) = choose_frame_range_inclusive(
+        start,
+        start_size,
+        end,
+        end_size,
+    ) else {
         return NO_SUCH_CHOICE;
-    };
-    let SizeAnswer::Size(t) = choose_size(end_size) else {
-        return NO_SUCH_CHOICE;
-    };
-    let first = PhysFrame {
-        start_address: PhysAddr(start),
-        size: s,
-    };
-    let last = PhysFrame {
-        start_address: PhysAddr(end),
-        size: t,
-    };
-    let range = PhysFrameRangeInclusive {
-        start: first,
-        end: last,
     };
     give_frame_draw_inclusive(draw_nth_back_inclusive(range, n), out)
 }

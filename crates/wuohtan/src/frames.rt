@@ -1,7 +1,11 @@
 // Frames, as numbers: a start and a size in bytes.
 use addr::PhysAddr;
+use convention::FrameChoice;
+use convention::FrameRangeChoice;
 use convention::NO_SUCH_CHOICE;
-use convention::SizeAnswer;
+use convention::SizeChoice;
+use convention::choose_frame;
+use convention::choose_frame_range;
 use convention::choose_size;
 use convention::give_frame;
 use convention::give_phys;
@@ -22,7 +26,7 @@ pub extern "C" fn wuohtan_phys_frame_from_start_address(
 ) -> u8
     ensures { λ r. ⌜ left r (now (out .exit)) ≡ leaves (ofSize size (startWord (fromStart (phys 52) address size))) (now (out .entry)) ⌝ }
 {
-    let SizeAnswer::Size(s) = choose_size(size) else {
+    let SizeChoice::Size(s) = choose_size(size) else {
         return NO_SUCH_CHOICE;
     };
     give_frame(PhysFrame::from_start_address(PhysAddr(address), s), out)
@@ -32,7 +36,7 @@ pub extern "C" fn wuohtan_phys_frame_from_start_address(
 pub extern "C" fn wuohtan_phys_frame_from_pfn(pfn: u64, size: u64, out: &mut [u64]) -> u8
     ensures { λ r. ⌜ left r (now (out .exit)) ≡ leaves (ofSize size (startWord (fromPfn pfn size))) (now (out .entry)) ⌝ }
 {
-    let SizeAnswer::Size(s) = choose_size(size) else {
+    let SizeChoice::Size(s) = choose_size(size) else {
         return NO_SUCH_CHOICE;
     };
     give_frame(PhysFrame::from_pfn(pfn, s), out)
@@ -42,7 +46,7 @@ pub extern "C" fn wuohtan_phys_frame_from_pfn(pfn: u64, size: u64, out: &mut [u6
 pub extern "C" fn wuohtan_phys_frame_try_from_pfn(pfn: u64, size: u64, out: &mut [u64]) -> u8
     ensures { λ r. ⌜ left r (now (out .exit)) ≡ leaves (ofSize size (startWord (fromPfn pfn size))) (now (out .entry)) ⌝ }
 {
-    let SizeAnswer::Size(s) = choose_size(size) else {
+    let SizeChoice::Size(s) = choose_size(size) else {
         return NO_SUCH_CHOICE;
     };
     give_frame(PhysFrame::try_from_pfn(pfn, s), out)
@@ -56,7 +60,7 @@ pub extern "C" fn wuohtan_phys_frame_containing_address(
 ) -> u8
     ensures { λ r. ⌜ left r (now (out .exit)) ≡ leaves (ofSize size (startWord (containing (phys 52) address size))) (now (out .entry)) ⌝ }
 {
-    let SizeAnswer::Size(s) = choose_size(size) else {
+    let SizeChoice::Size(s) = choose_size(size) else {
         return NO_SUCH_CHOICE;
     };
     give_frame(PhysFrame::containing_address(PhysAddr(address), s), out)
@@ -66,12 +70,8 @@ pub extern "C" fn wuohtan_phys_frame_containing_address(
 pub extern "C" fn wuohtan_phys_frame_start_address(start: u64, size: u64, out: &mut [u64]) -> u8
     ensures { λ r. ⌜ left r (now (out .exit)) ≡ leaves (ofSize size (word (startOf (phys 52) start size))) (now (out .entry)) ⌝ }
 {
-    let SizeAnswer::Size(s) = choose_size(size) else {
+    let FrameChoice::Frame(frame) = choose_frame(start, size) else {
         return NO_SUCH_CHOICE;
-    };
-    let frame = PhysFrame {
-        start_address: PhysAddr(start),
-        size: s,
     };
     give_phys(frame.start_address(), out)
 }
@@ -80,12 +80,8 @@ pub extern "C" fn wuohtan_phys_frame_start_address(start: u64, size: u64, out: &
 pub extern "C" fn wuohtan_phys_frame_size(start: u64, size: u64, out: &mut [u64]) -> u8
     ensures { λ r. ⌜ left r (now (out .exit)) ≡ leaves (ofSize size (word (sizeOf (phys 52) start size))) (now (out .entry)) ⌝ }
 {
-    let SizeAnswer::Size(s) = choose_size(size) else {
+    let FrameChoice::Frame(frame) = choose_frame(start, size) else {
         return NO_SUCH_CHOICE;
-    };
-    let frame = PhysFrame {
-        start_address: PhysAddr(start),
-        size: s,
     };
     give_u64(frame.size(), out)
 }
@@ -94,12 +90,8 @@ pub extern "C" fn wuohtan_phys_frame_size(start: u64, size: u64, out: &mut [u64]
 pub extern "C" fn wuohtan_phys_frame_pfn(start: u64, size: u64, out: &mut [u64]) -> u8
     ensures { λ r. ⌜ left r (now (out .exit)) ≡ leaves (ofSize size (word (pfnOf start size))) (now (out .entry)) ⌝ }
 {
-    let SizeAnswer::Size(s) = choose_size(size) else {
+    let FrameChoice::Frame(frame) = choose_frame(start, size) else {
         return NO_SUCH_CHOICE;
-    };
-    let frame = PhysFrame {
-        start_address: PhysAddr(start),
-        size: s,
     };
     give_u64(frame.pfn(), out)
 }
@@ -108,12 +100,8 @@ pub extern "C" fn wuohtan_phys_frame_pfn(start: u64, size: u64, out: &mut [u64])
 pub extern "C" fn wuohtan_phys_frame_add(start: u64, size: u64, count: u64, out: &mut [u64]) -> u8
     ensures { λ r. ⌜ left r (now (out .exit)) ≡ leaves (ofSize size (startWord (plusItem (phys 52) start size count))) (now (out .entry)) ⌝ }
 {
-    let SizeAnswer::Size(s) = choose_size(size) else {
+    let FrameChoice::Frame(frame) = choose_frame(start, size) else {
         return NO_SUCH_CHOICE;
-    };
-    let frame = PhysFrame {
-        start_address: PhysAddr(start),
-        size: s,
     };
     give_frame(frame.add(count), out)
 }
@@ -122,12 +110,8 @@ pub extern "C" fn wuohtan_phys_frame_add(start: u64, size: u64, count: u64, out:
 pub extern "C" fn wuohtan_phys_frame_sub(start: u64, size: u64, count: u64, out: &mut [u64]) -> u8
     ensures { λ r. ⌜ left r (now (out .exit)) ≡ leaves (ofSize size (startWord (minusItem (phys 52) start size count))) (now (out .entry)) ⌝ }
 {
-    let SizeAnswer::Size(s) = choose_size(size) else {
+    let FrameChoice::Frame(frame) = choose_frame(start, size) else {
         return NO_SUCH_CHOICE;
-    };
-    let frame = PhysFrame {
-        start_address: PhysAddr(start),
-        size: s,
     };
     give_frame(frame.sub(count), out)
 }
@@ -142,19 +126,10 @@ pub extern "C" fn wuohtan_phys_frame_sub_frame(
 ) -> u8
     ensures { λ r. ⌜ left r (now (out .exit)) ≡ leaves (ofSize size (ofSize «other_size» (word (distanceItem (phys 52) start size other «other_size»)))) (now (out .entry)) ⌝ }
 {
-    let SizeAnswer::Size(s) = choose_size(size) else {
+    let FrameRangeChoice::Range(frames) = choose_frame_range(start, size, other, other_size) else {
         return NO_SUCH_CHOICE;
     };
-    let SizeAnswer::Size(t) = choose_size(other_size) else {
-        return NO_SUCH_CHOICE;
-    };
-    let frame = PhysFrame {
-        start_address: PhysAddr(start),
-        size: s,
-    };
-    let other_frame = PhysFrame {
-        start_address: PhysAddr(other),
-        size: t,
-    };
+    let frame = frames.start;
+    let other_frame = frames.end;
     give_u64(frame.sub_frame(other_frame), out)
 }

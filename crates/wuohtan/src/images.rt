@@ -1,6 +1,7 @@
 // Translation, the run search, and lists of searches.
 use addr::PhysAddr;
 use addr::VirtAddr;
+use convention::LISTED_WORDS;
 use convention::NO_ROOM;
 use convention::give_listed;
 use convention::give_search;
@@ -11,9 +12,9 @@ use image::translate;
 ghost use mathlib.Core.Path.{_≡_};
 ghost use Rattle.image.specs.List.{listing};
 ghost use Rattle.image.specs.Search.{searching};
-ghost use Rattle.image.specs.Translate as Translate;
+ghost use Rattle.image.specs.Translate.{translation};
 ghost use Rattle.convention.specs.Convention.{left, leaves};
-ghost use Rattle.convention.specs.Images.{translation, report, leftList, leavesList};
+ghost use Rattle.convention.specs.Images.{translationWords, searchWords, leftList, leavesList};
 
 #[no_mangle]
 pub extern "C" fn wuohtan_translate(
@@ -23,7 +24,7 @@ pub extern "C" fn wuohtan_translate(
     addr: u64,
     out: &mut [u64],
 ) -> u8
-    ensures { λ r. ⌜ left r (now (out .exit)) ≡ leaves (translation (Translate.translation 48 4 (now (image .entry)) base root addr)) (now (out .entry)) ⌝ }
+    ensures { λ r. ⌜ left r (now (out .exit)) ≡ leaves (translationWords (translation 48 4 (now (image .entry)) base root addr)) (now (out .entry)) ⌝ }
 {
     give_translation(
         translate(image, PhysAddr(base), PhysAddr(root), VirtAddr(addr)),
@@ -39,7 +40,7 @@ pub extern "C" fn wuohtan_search(
     page: u64,
     out: &mut [u64],
 ) -> u8
-    ensures { λ r. ⌜ left r (now (out .exit)) ≡ leaves (report (searching 48 4 (now (image .entry)) base root page)) (now (out .entry)) ⌝ }
+    ensures { λ r. ⌜ left r (now (out .exit)) ≡ leaves (searchWords (searching 48 4 (now (image .entry)) base root page)) (now (out .entry)) ⌝ }
 {
     give_search(
         search(image, PhysAddr(base), PhysAddr(root), VirtAddr(page)),
@@ -59,7 +60,7 @@ pub extern "C" fn wuohtan_list(
 ) -> u8
     ensures { λ r. ⌜ leftList (now (answers .exit)) r (now (out .exit)) ≡ leavesList (listing 48 4 (now (image .entry)) base root page (now (answers .entry))) (now (answers .entry)) (now (out .entry)) ⌝ }
 {
-    if out.len() < 3 {
+    if out.len() < LISTED_WORDS {
         return NO_ROOM;
     }
     let listed = list(

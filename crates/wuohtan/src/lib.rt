@@ -1,5 +1,6 @@
 // The C interface, for the kernel and the bench reader: include/wuohtan.h declares it. Each function
-// here is one call of the library, its arguments and its answer in the convention's form.
+// here is one call of the library, its arguments and its answer in the convention's form; a `next` is
+// its `nth` at 0.
 pub mod align;
 pub mod frame_ranges;
 pub mod frames;

@@ -1,8 +1,9 @@
 // Ranges of pages, as numbers: start and end, each with its size in bytes.
-use addr::VirtAddr;
 use convention::NO_SUCH_CHOICE;
-use convention::SizeAnswer;
-use convention::choose_size;
+use convention::PageRangeChoice;
+use convention::PageRangeInclusiveChoice;
+use convention::choose_page_range;
+use convention::choose_page_range_inclusive;
 use convention::give_bool;
 use convention::give_page_draw;
 use convention::give_page_draw_inclusive;
@@ -10,12 +11,6 @@ use convention::give_page_range;
 use convention::give_page_range_inclusive;
 use convention::give_u64;
 use page::Page;
-use page::PageRange;
-use page::PageRangeInclusive;
-use page::draw_next;
-use page::draw_next_back;
-use page::draw_next_back_inclusive;
-use page::draw_next_inclusive;
 use page::draw_nth;
 use page::draw_nth_back;
 use page::draw_nth_back_inclusive;
@@ -38,20 +33,11 @@ pub extern "C" fn wuohtan_page_range_new(
 ) -> u8
     ensures { λ r. ⌜ left r (now (out .exit)) ≡ leaves (ofSize «start_size» (ofSize «end_size» (pair (makeRange (virt 48) start «start_size» end «end_size»)))) (now (out .entry)) ⌝ }
 {
-    let SizeAnswer::Size(s) = choose_size(start_size) else {
+    let PageRangeChoice::Range(range) = choose_page_range(start, start_size, end, end_size) else {
         return NO_SUCH_CHOICE;
     };
-    let SizeAnswer::Size(t) = choose_size(end_size) else {
-        return NO_SUCH_CHOICE;
-    };
-    let first = Page {
-        start_address: VirtAddr(start),
-        size: s,
-    };
-    let last = Page {
-        start_address: VirtAddr(end),
-        size: t,
-    };
+    let first = range.start;
+    let last = range.end;
     give_page_range(Page::range(first, last), out)
 }
 
@@ -65,23 +51,8 @@ pub extern "C" fn wuohtan_page_range_is_empty(
 ) -> u8
     ensures { λ r. ⌜ left r (now (out .exit)) ≡ leaves (ofSize «start_size» (ofSize «end_size» (truth (emptyBelow (virt 48) start «start_size» end «end_size»)))) (now (out .entry)) ⌝ }
 {
-    let SizeAnswer::Size(s) = choose_size(start_size) else {
+    let PageRangeChoice::Range(range) = choose_page_range(start, start_size, end, end_size) else {
         return NO_SUCH_CHOICE;
-    };
-    let SizeAnswer::Size(t) = choose_size(end_size) else {
-        return NO_SUCH_CHOICE;
-    };
-    let first = Page {
-        start_address: VirtAddr(start),
-        size: s,
-    };
-    let last = Page {
-        start_address: VirtAddr(end),
-        size: t,
-    };
-    let range = PageRange {
-        start: first,
-        end: last,
     };
     give_bool(range.is_empty(), out)
 }
@@ -96,23 +67,8 @@ pub extern "C" fn wuohtan_page_range_len(
 ) -> u8
     ensures { λ r. ⌜ left r (now (out .exit)) ≡ leaves (ofSize «start_size» (ofSize «end_size» (word (countBelow (virt 48) start «start_size» end «end_size»)))) (now (out .entry)) ⌝ }
 {
-    let SizeAnswer::Size(s) = choose_size(start_size) else {
+    let PageRangeChoice::Range(range) = choose_page_range(start, start_size, end, end_size) else {
         return NO_SUCH_CHOICE;
-    };
-    let SizeAnswer::Size(t) = choose_size(end_size) else {
-        return NO_SUCH_CHOICE;
-    };
-    let first = Page {
-        start_address: VirtAddr(start),
-        size: s,
-    };
-    let last = Page {
-        start_address: VirtAddr(end),
-        size: t,
-    };
-    let range = PageRange {
-        start: first,
-        end: last,
     };
     give_u64(range.len(), out)
 }
@@ -127,23 +83,8 @@ pub extern "C" fn wuohtan_page_range_size(
 ) -> u8
     ensures { λ r. ⌜ left r (now (out .exit)) ≡ leaves (ofSize «start_size» (ofSize «end_size» (word (bytesBelow (virt 48) start «start_size» end «end_size»)))) (now (out .entry)) ⌝ }
 {
-    let SizeAnswer::Size(s) = choose_size(start_size) else {
+    let PageRangeChoice::Range(range) = choose_page_range(start, start_size, end, end_size) else {
         return NO_SUCH_CHOICE;
-    };
-    let SizeAnswer::Size(t) = choose_size(end_size) else {
-        return NO_SUCH_CHOICE;
-    };
-    let first = Page {
-        start_address: VirtAddr(start),
-        size: s,
-    };
-    let last = Page {
-        start_address: VirtAddr(end),
-        size: t,
-    };
-    let range = PageRange {
-        start: first,
-        end: last,
     };
     give_u64(range.size(), out)
 }
@@ -158,25 +99,7 @@ pub extern "C" fn wuohtan_page_range_next(
 ) -> u8
     ensures { λ r. ⌜ left r (now (out .exit)) ≡ leaves (ofSize «start_size» (ofSize «end_size» (pageDrawWords (nthOf 48 (pageRangeAt start «start_size» end «end_size») 0)))) (now (out .entry)) ⌝ }
 {
-    let SizeAnswer::Size(s) = choose_size(start_size) else {
-        return NO_SUCH_CHOICE;
-    };
-    let SizeAnswer::Size(t) = choose_size(end_size) else {
-        return NO_SUCH_CHOICE;
-    };
-    let first = Page {
-        start_address: VirtAddr(start),
-        size: s,
-    };
-    let last = Page {
-        start_address: VirtAddr(end),
-        size: t,
-    };
-    let range = PageRange {
-        start: first,
-        end: last,
-    };
-    give_page_draw(draw_next(range), out)
+    wuohtan_page_range_nth(start, start_size, end, end_size, 0, out)
 }
 
 #[no_mangle]
@@ -190,23 +113,8 @@ pub extern "C" fn wuohtan_page_range_nth(
 ) -> u8
     ensures { λ r. ⌜ left r (now (out .exit)) ≡ leaves (ofSize «start_size» (ofSize «end_size» (pageDrawWords (nthOf 48 (pageRangeAt start «start_size» end «end_size») n)))) (now (out .entry)) ⌝ }
 {
-    let SizeAnswer::Size(s) = choose_size(start_size) else {
+    let PageRangeChoice::Range(range) = choose_page_range(start, start_size, end, end_size) else {
         return NO_SUCH_CHOICE;
-    };
-    let SizeAnswer::Size(t) = choose_size(end_size) else {
-        return NO_SUCH_CHOICE;
-    };
-    let first = Page {
-        start_address: VirtAddr(start),
-        size: s,
-    };
-    let last = Page {
-        start_address: VirtAddr(end),
-        size: t,
-    };
-    let range = PageRange {
-        start: first,
-        end: last,
     };
     give_page_draw(draw_nth(range, n), out)
 }
@@ -221,25 +129,7 @@ pub extern "C" fn wuohtan_page_range_next_back(
 ) -> u8
     ensures { λ r. ⌜ left r (now (out .exit)) ≡ leaves (ofSize «start_size» (ofSize «end_size» (pageDrawWords (nthBackOf 48 (pageRangeAt start «start_size» end «end_size») 0)))) (now (out .entry)) ⌝ }
 {
-    let SizeAnswer::Size(s) = choose_size(start_size) else {
-        return NO_SUCH_CHOICE;
-    };
-    let SizeAnswer::Size(t) = choose_size(end_size) else {
-        return NO_SUCH_CHOICE;
-    };
-    let first = Page {
-        start_address: VirtAddr(start),
-        size: s,
-    };
-    let last = Page {
-        start_address: VirtAddr(end),
-        size: t,
-    };
-    let range = PageRange {
-        start: first,
-        end: last,
-    };
-    give_page_draw(draw_next_back(range), out)
+    wuohtan_page_range_nth_back(start, start_size, end, end_size, 0, out)
 }
 
 #[no_mangle]
@@ -253,23 +143,8 @@ pub extern "C" fn wuohtan_page_range_nth_back(
 ) -> u8
     ensures { λ r. ⌜ left r (now (out .exit)) ≡ leaves (ofSize «start_size» (ofSize «end_size» (pageDrawWords (nthBackOf 48 (pageRangeAt start «start_size» end «end_size») n)))) (now (out .entry)) ⌝ }
 {
-    let SizeAnswer::Size(s) = choose_size(start_size) else {
+    let PageRangeChoice::Range(range) = choose_page_range(start, start_size, end, end_size) else {
         return NO_SUCH_CHOICE;
-    };
-    let SizeAnswer::Size(t) = choose_size(end_size) else {
-        return NO_SUCH_CHOICE;
-    };
-    let first = Page {
-        start_address: VirtAddr(start),
-        size: s,
-    };
-    let last = Page {
-        start_address: VirtAddr(end),
-        size: t,
-    };
-    let range = PageRange {
-        start: first,
-        end: last,
     };
     give_page_draw(draw_nth_back(range, n), out)
 }
@@ -284,23 +159,8 @@ pub extern "C" fn wuohtan_page_range_as_4kib_page_range(
 ) -> u8
     ensures { λ r. ⌜ left r (now (out .exit)) ≡ leaves (ofSize «start_size» (ofSize «end_size» (pair (as4KiB 48 start «start_size» end «end_size»)))) (now (out .entry)) ⌝ }
 {
-    let SizeAnswer::Size(s) = choose_size(start_size) else {
+    let PageRangeChoice::Range(range) = choose_page_range(start, start_size, end, end_size) else {
         return NO_SUCH_CHOICE;
-    };
-    let SizeAnswer::Size(t) = choose_size(end_size) else {
-        return NO_SUCH_CHOICE;
-    };
-    let first = Page {
-        start_address: VirtAddr(start),
-        size: s,
-    };
-    let last = Page {
-        start_address: VirtAddr(end),
-        size: t,
-    };
-    let range = PageRange {
-        start: first,
-        end: last,
     };
     give_page_range(range.as_4kib_page_range(), out)
 }
@@ -315,20 +175,16 @@ pub extern "C" fn wuohtan_page_range_inclusive_new(
 ) -> u8
     ensures { λ r. ⌜ left r (now (out .exit)) ≡ leaves (ofSize «start_size» (ofSize «end_size» (pair (makeRange (virt 48) start «start_size» end «end_size»)))) (now (out .entry)) ⌝ }
 {
-    let SizeAnswer::Size(s) = choose_size(start_size) else {
+    let PageRangeInclusiveChoice::Range(range) = choose_page_range_inclusive(
+        start,
+        start_size,
+        end,
+        end_size,
+    ) else {
         return NO_SUCH_CHOICE;
     };
-    let SizeAnswer::Size(t) = choose_size(end_size) else {
-        return NO_SUCH_CHOICE;
-    };
-    let first = Page {
-        start_address: VirtAddr(start),
-        size: s,
-    };
-    let last = Page {
-        start_address: VirtAddr(end),
-        size: t,
-    };
+    let first = range.start;
+    let last = range.end;
     give_page_range_inclusive(Page::range_inclusive(first, last), out)
 }
 
@@ -342,23 +198,13 @@ pub extern "C" fn wuohtan_page_range_inclusive_is_empty(
 ) -> u8
     ensures { λ r. ⌜ left r (now (out .exit)) ≡ leaves (ofSize «start_size» (ofSize «end_size» (truth (emptyThrough (virt 48) start «start_size» end «end_size»)))) (now (out .entry)) ⌝ }
 {
-    let SizeAnswer::Size(s) = choose_size(start_size) else {
+    let PageRangeInclusiveChoice::Range(range) = choose_page_range_inclusive(
+        start,
+        start_size,
+        end,
+        end_size,
+    ) else {
         return NO_SUCH_CHOICE;
-    };
-    let SizeAnswer::Size(t) = choose_size(end_size) else {
-        return NO_SUCH_CHOICE;
-    };
-    let first = Page {
-        start_address: VirtAddr(start),
-        size: s,
-    };
-    let last = Page {
-        start_address: VirtAddr(end),
-        size: t,
-    };
-    let range = PageRangeInclusive {
-        start: first,
-        end: last,
     };
     give_bool(range.is_empty(), out)
 }
@@ -373,23 +219,13 @@ pub extern "C" fn wuohtan_page_range_inclusive_len(
 ) -> u8
     ensures { λ r. ⌜ left r (now (out .exit)) ≡ leaves (ofSize «start_size» (ofSize «end_size» (word (countThrough (virt 48) start «start_size» end «end_size»)))) (now (out .entry)) ⌝ }
 {
-    let SizeAnswer::Size(s) = choose_size(start_size) else {
+    let PageRangeInclusiveChoice::Range(range) = choose_page_range_inclusive(
+        start,
+        start_size,
+        end,
+        end_size,
+    ) else {
         return NO_SUCH_CHOICE;
-    };
-    let SizeAnswer::Size(t) = choose_size(end_size) else {
-        return NO_SUCH_CHOICE;
-    };
-    let first = Page {
-        start_address: VirtAddr(start),
-        size: s,
-    };
-    let last = Page {
-        start_address: VirtAddr(end),
-        size: t,
-    };
-    let range = PageRangeInclusive {
-        start: first,
-        end: last,
     };
     give_u64(range.len(), out)
 }
@@ -404,23 +240,13 @@ pub extern "C" fn wuohtan_page_range_inclusive_size(
 ) -> u8
     ensures { λ r. ⌜ left r (now (out .exit)) ≡ leaves (ofSize «start_size» (ofSize «end_size» (word (bytesThrough (virt 48) start «start_size» end «end_size»)))) (now (out .entry)) ⌝ }
 {
-    let SizeAnswer::Size(s) = choose_size(start_size) else {
+    let PageRangeInclusiveChoice::Range(range) = choose_page_range_inclusive(
+        start,
+        start_size,
+        end,
+        end_size,
+    ) else {
         return NO_SUCH_CHOICE;
-    };
-    let SizeAnswer::Size(t) = choose_size(end_size) else {
-        return NO_SUCH_CHOICE;
-    };
-    let first = Page {
-        start_address: VirtAddr(start),
-        size: s,
-    };
-    let last = Page {
-        start_address: VirtAddr(end),
-        size: t,
-    };
-    let range = PageRangeInclusive {
-        start: first,
-        end: last,
     };
     give_u64(range.size(), out)
 }
@@ -435,25 +261,7 @@ pub extern "C" fn wuohtan_page_range_inclusive_next(
 ) -> u8
     ensures { λ r. ⌜ left r (now (out .exit)) ≡ leaves (ofSize «start_size» (ofSize «end_size» (pageDrawInclusiveWords (nthInclusiveOf 48 (pageRangeInclusiveAt start «start_size» end «end_size») 0)))) (now (out .entry)) ⌝ }
 {
-    let SizeAnswer::Size(s) = choose_size(start_size) else {
-        return NO_SUCH_CHOICE;
-    };
-    let SizeAnswer::Size(t) = choose_size(end_size) else {
-        return NO_SUCH_CHOICE;
-    };
-    let first = Page {
-        start_address: VirtAddr(start),
-        size: s,
-    };
-    let last = Page {
-        start_address: VirtAddr(end),
-        size: t,
-    };
-    let range = PageRangeInclusive {
-        start: first,
-        end: last,
-    };
-    give_page_draw_inclusive(draw_next_inclusive(range), out)
+    wuohtan_page_range_inclusive_nth(start, start_size, end, end_size, 0, out)
 }
 
 #[no_mangle]
@@ -467,23 +275,13 @@ pub extern "C" fn wuohtan_page_range_inclusive_nth(
 ) -> u8
     ensures { λ r. ⌜ left r (now (out .exit)) ≡ leaves (ofSize «start_size» (ofSize «end_size» (pageDrawInclusiveWords (nthInclusiveOf 48 (pageRangeInclusiveAt start «start_size» end «end_size») n)))) (now (out .entry)) ⌝ }
 {
-    let SizeAnswer::Size(s) = choose_size(start_size) else {
+    let PageRangeInclusiveChoice::Range(range) = choose_page_range_inclusive(
+        start,
+        start_size,
+        end,
+        end_size,
+    ) else {
         return NO_SUCH_CHOICE;
-    };
-    let SizeAnswer::Size(t) = choose_size(end_size) else {
-        return NO_SUCH_CHOICE;
-    };
-    let first = Page {
-        start_address: VirtAddr(start),
-        size: s,
-    };
-    let last = Page {
-        start_address: VirtAddr(end),
-        size: t,
-    };
-    let range = PageRangeInclusive {
-        start: first,
-        end: last,
     };
     give_page_draw_inclusive(draw_nth_inclusive(range, n), out)
 }
@@ -498,25 +296,7 @@ pub extern "C" fn wuohtan_page_range_inclusive_next_back(
 ) -> u8
     ensures { λ r. ⌜ left r (now (out .exit)) ≡ leaves (ofSize «start_size» (ofSize «end_size» (pageDrawInclusiveWords (nthBackInclusiveOf 48 (pageRangeInclusiveAt start «start_size» end «end_size») 0)))) (now (out .entry)) ⌝ }
 {
-    let SizeAnswer::Size(s) = choose_size(start_size) else {
-        return NO_SUCH_CHOICE;
-    };
-    let SizeAnswer::Size(t) = choose_size(end_size) else {
-        return NO_SUCH_CHOICE;
-    };
-    let first = Page {
-        start_address: VirtAddr(start),
-        size: s,
-    };
-    let last = Page {
-        start_address: VirtAddr(end),
-        size: t,
-    };
-    let range = PageRangeInclusive {
-        start: first,
-        end: last,
-    };
-    give_page_draw_inclusive(draw_next_back_inclusive(range), out)
+    wuohtan_page_range_inclusive_nth_back(start, start_size, end, end_size, 0, out)
 }
 
 #[no_mangle]
@@ -530,23 +310,13 @@ pub extern "C" fn wuohtan_page_range_inclusive_nth_back(
 ) -> u8
     ensures { λ r. ⌜ left r (now (out .exit)) ≡ leaves (ofSize «start_size» (ofSize «end_size» (pageDrawInclusiveWords (nthBackInclusiveOf 48 (pageRangeInclusiveAt start «start_size» end «end_size») n)))) (now (out .entry)) ⌝ }
 {
-    let SizeAnswer::Size(s) = choose_size(start_size) else {
+    let PageRangeInclusiveChoice::Range(range) = choose_page_range_inclusive(
+        start,
+        start_size,
+        end,
+        end_size,
+    ) else {
         return NO_SUCH_CHOICE;
-    };
-    let SizeAnswer::Size(t) = choose_size(end_size) else {
-        return NO_SUCH_CHOICE;
-    };
-    let first = Page {
-        start_address: VirtAddr(start),
-        size: s,
-    };
-    let last = Page {
-        start_address: VirtAddr(end),
-        size: t,
-    };
-    let range = PageRangeInclusive {
-        start: first,
-        end: last,
     };
     give_page_draw_inclusive(draw_nth_back_inclusive(range, n), out)
 }

@@ -1,8 +1,12 @@
 // Pages, as numbers: a start and a size in bytes.
 use addr::VirtAddr;
 use convention::NO_SUCH_CHOICE;
-use convention::SizeAnswer;
+use convention::PageChoice;
+use convention::PageRangeChoice;
+use convention::SizeChoice;
 use convention::choose_level;
+use convention::choose_page;
+use convention::choose_page_range;
 use convention::choose_size;
 use convention::give_index;
 use convention::give_page;
@@ -23,7 +27,7 @@ ghost use Rattle.convention.specs.Choice.{atLevel, ofSize};
 pub extern "C" fn wuohtan_page_from_start_address(address: u64, size: u64, out: &mut [u64]) -> u8
     ensures { λ r. ⌜ left r (now (out .exit)) ≡ leaves (ofSize size (startWord (fromStart (virt 48) address size))) (now (out .entry)) ⌝ }
 {
-    let SizeAnswer::Size(s) = choose_size(size) else {
+    let SizeChoice::Size(s) = choose_size(size) else {
         return NO_SUCH_CHOICE;
     };
     give_page(Page::from_start_address(VirtAddr(address), s), out)
@@ -33,7 +37,7 @@ pub extern "C" fn wuohtan_page_from_start_address(address: u64, size: u64, out: 
 pub extern "C" fn wuohtan_page_containing_address(address: u64, size: u64, out: &mut [u64]) -> u8
     ensures { λ r. ⌜ left r (now (out .exit)) ≡ leaves (ofSize size (startWord (containing (virt 48) address size))) (now (out .entry)) ⌝ }
 {
-    let SizeAnswer::Size(s) = choose_size(size) else {
+    let SizeChoice::Size(s) = choose_size(size) else {
         return NO_SUCH_CHOICE;
     };
     give_page(Page::containing_address(VirtAddr(address), s), out)
@@ -43,12 +47,8 @@ pub extern "C" fn wuohtan_page_containing_address(address: u64, size: u64, out: 
 pub extern "C" fn wuohtan_page_start_address(start: u64, size: u64, out: &mut [u64]) -> u8
     ensures { λ r. ⌜ left r (now (out .exit)) ≡ leaves (ofSize size (word (startOf (virt 48) start size))) (now (out .entry)) ⌝ }
 {
-    let SizeAnswer::Size(s) = choose_size(size) else {
+    let PageChoice::Page(page) = choose_page(start, size) else {
         return NO_SUCH_CHOICE;
-    };
-    let page = Page {
-        start_address: VirtAddr(start),
-        size: s,
     };
     give_virt(page.start_address(), out)
 }
@@ -57,12 +57,8 @@ pub extern "C" fn wuohtan_page_start_address(start: u64, size: u64, out: &mut [u
 pub extern "C" fn wuohtan_page_size(start: u64, size: u64, out: &mut [u64]) -> u8
     ensures { λ r. ⌜ left r (now (out .exit)) ≡ leaves (ofSize size (word (sizeOf (virt 48) start size))) (now (out .entry)) ⌝ }
 {
-    let SizeAnswer::Size(s) = choose_size(size) else {
+    let PageChoice::Page(page) = choose_page(start, size) else {
         return NO_SUCH_CHOICE;
-    };
-    let page = Page {
-        start_address: VirtAddr(start),
-        size: s,
     };
     give_u64(page.size(), out)
 }
@@ -71,12 +67,8 @@ pub extern "C" fn wuohtan_page_size(start: u64, size: u64, out: &mut [u64]) -> u
 pub extern "C" fn wuohtan_page_p1_index(start: u64, size: u64, out: &mut [u64]) -> u8
     ensures { λ r. ⌜ left r (now (out .exit)) ≡ leaves (ofSize size (word (ownIndex 48 start size 1))) (now (out .entry)) ⌝ }
 {
-    let SizeAnswer::Size(s) = choose_size(size) else {
+    let PageChoice::Page(page) = choose_page(start, size) else {
         return NO_SUCH_CHOICE;
-    };
-    let page = Page {
-        start_address: VirtAddr(start),
-        size: s,
     };
     give_index(page.p1_index(), out)
 }
@@ -85,12 +77,8 @@ pub extern "C" fn wuohtan_page_p1_index(start: u64, size: u64, out: &mut [u64]) 
 pub extern "C" fn wuohtan_page_p2_index(start: u64, size: u64, out: &mut [u64]) -> u8
     ensures { λ r. ⌜ left r (now (out .exit)) ≡ leaves (ofSize size (word (ownIndex 48 start size 2))) (now (out .entry)) ⌝ }
 {
-    let SizeAnswer::Size(s) = choose_size(size) else {
+    let PageChoice::Page(page) = choose_page(start, size) else {
         return NO_SUCH_CHOICE;
-    };
-    let page = Page {
-        start_address: VirtAddr(start),
-        size: s,
     };
     give_index(page.p2_index(), out)
 }
@@ -99,12 +87,8 @@ pub extern "C" fn wuohtan_page_p2_index(start: u64, size: u64, out: &mut [u64]) 
 pub extern "C" fn wuohtan_page_p3_index(start: u64, size: u64, out: &mut [u64]) -> u8
     ensures { λ r. ⌜ left r (now (out .exit)) ≡ leaves (ofSize size (word (pageIndex 48 start size 3))) (now (out .entry)) ⌝ }
 {
-    let SizeAnswer::Size(s) = choose_size(size) else {
+    let PageChoice::Page(page) = choose_page(start, size) else {
         return NO_SUCH_CHOICE;
-    };
-    let page = Page {
-        start_address: VirtAddr(start),
-        size: s,
     };
     give_index(page.p3_index(), out)
 }
@@ -113,12 +97,8 @@ pub extern "C" fn wuohtan_page_p3_index(start: u64, size: u64, out: &mut [u64]) 
 pub extern "C" fn wuohtan_page_p4_index(start: u64, size: u64, out: &mut [u64]) -> u8
     ensures { λ r. ⌜ left r (now (out .exit)) ≡ leaves (ofSize size (word (pageIndex 48 start size 4))) (now (out .entry)) ⌝ }
 {
-    let SizeAnswer::Size(s) = choose_size(size) else {
+    let PageChoice::Page(page) = choose_page(start, size) else {
         return NO_SUCH_CHOICE;
-    };
-    let page = Page {
-        start_address: VirtAddr(start),
-        size: s,
     };
     give_index(page.p4_index(), out)
 }
@@ -132,15 +112,11 @@ pub extern "C" fn wuohtan_page_page_table_index(
 ) -> u8
     ensures { λ r. ⌜ left r (now (out .exit)) ≡ leaves (ofSize size (atLevel level (word (pageIndex 48 start size level)))) (now (out .entry)) ⌝ }
 {
-    let SizeAnswer::Size(s) = choose_size(size) else {
+    let PageChoice::Page(page) = choose_page(start, size) else {
         return NO_SUCH_CHOICE;
     };
     let LevelAnswer::Level(l) = choose_level(level) else {
         return NO_SUCH_CHOICE;
-    };
-    let page = Page {
-        start_address: VirtAddr(start),
-        size: s,
     };
     give_index(page.page_table_index(l), out)
 }
@@ -194,12 +170,8 @@ pub extern "C" fn wuohtan_page_from_page_table_indices_1gib(
 pub extern "C" fn wuohtan_page_add(start: u64, size: u64, count: u64, out: &mut [u64]) -> u8
     ensures { λ r. ⌜ left r (now (out .exit)) ≡ leaves (ofSize size (startWord (plusItem (virt 48) start size count))) (now (out .entry)) ⌝ }
 {
-    let SizeAnswer::Size(s) = choose_size(size) else {
+    let PageChoice::Page(page) = choose_page(start, size) else {
         return NO_SUCH_CHOICE;
-    };
-    let page = Page {
-        start_address: VirtAddr(start),
-        size: s,
     };
     give_page(page.add(count), out)
 }
@@ -208,12 +180,8 @@ pub extern "C" fn wuohtan_page_add(start: u64, size: u64, count: u64, out: &mut 
 pub extern "C" fn wuohtan_page_sub(start: u64, size: u64, count: u64, out: &mut [u64]) -> u8
     ensures { λ r. ⌜ left r (now (out .exit)) ≡ leaves (ofSize size (startWord (minusItem (virt 48) start size count))) (now (out .entry)) ⌝ }
 {
-    let SizeAnswer::Size(s) = choose_size(size) else {
+    let PageChoice::Page(page) = choose_page(start, size) else {
         return NO_SUCH_CHOICE;
-    };
-    let page = Page {
-        start_address: VirtAddr(start),
-        size: s,
     };
     give_page(page.sub(count), out)
 }
@@ -228,20 +196,11 @@ pub extern "C" fn wuohtan_page_sub_page(
 ) -> u8
     ensures { λ r. ⌜ left r (now (out .exit)) ≡ leaves (ofSize size (ofSize «other_size» (word (distanceItem (virt 48) start size other «other_size»)))) (now (out .entry)) ⌝ }
 {
-    let SizeAnswer::Size(s) = choose_size(size) else {
+    let PageRangeChoice::Range(pages) = choose_page_range(start, size, other, other_size) else {
         return NO_SUCH_CHOICE;
     };
-    let SizeAnswer::Size(t) = choose_size(other_size) else {
-        return NO_SUCH_CHOICE;
-    };
-    let page = Page {
-        start_address: VirtAddr(start),
-        size: s,
-    };
-    let other_page = Page {
-        start_address: VirtAddr(other),
-        size: t,
-    };
+    let page = pages.start;
+    let other_page = pages.end;
     give_u64(page.sub_page(other_page), out)
 }
 
@@ -254,12 +213,8 @@ pub extern "C" fn wuohtan_page_forward_checked(
 ) -> u8
     ensures { λ r. ⌜ left r (now (out .exit)) ≡ leaves (ofSize size (startWord (pageForward 48 start size count))) (now (out .entry)) ⌝ }
 {
-    let SizeAnswer::Size(s) = choose_size(size) else {
+    let PageChoice::Page(page) = choose_page(start, size) else {
         return NO_SUCH_CHOICE;
-    };
-    let page = Page {
-        start_address: VirtAddr(start),
-        size: s,
     };
     give_page(Page::forward_checked(page, count), out)
 }
@@ -273,12 +228,8 @@ pub extern "C" fn wuohtan_page_backward_checked(
 ) -> u8
     ensures { λ r. ⌜ left r (now (out .exit)) ≡ leaves (ofSize size (startWord (pageBackward 48 start size count))) (now (out .entry)) ⌝ }
 {
-    let SizeAnswer::Size(s) = choose_size(size) else {
+    let PageChoice::Page(page) = choose_page(start, size) else {
         return NO_SUCH_CHOICE;
-    };
-    let page = Page {
-        start_address: VirtAddr(start),
-        size: s,
     };
     give_page(Page::backward_checked(page, count), out)
 }
@@ -293,19 +244,10 @@ pub extern "C" fn wuohtan_page_steps_between_u64(
 ) -> u8
     ensures { λ r. ⌜ left r (now (out .exit)) ≡ leaves (ofSize size (ofSize «end_size» (word (pageSteps 48 start size end «end_size»)))) (now (out .entry)) ⌝ }
 {
-    let SizeAnswer::Size(s) = choose_size(size) else {
+    let PageRangeChoice::Range(pages) = choose_page_range(start, size, end, end_size) else {
         return NO_SUCH_CHOICE;
     };
-    let SizeAnswer::Size(t) = choose_size(end_size) else {
-        return NO_SUCH_CHOICE;
-    };
-    let page = Page {
-        start_address: VirtAddr(start),
-        size: s,
-    };
-    let end_page = Page {
-        start_address: VirtAddr(end),
-        size: t,
-    };
+    let page = pages.start;
+    let end_page = pages.end;
     give_u64(Page::steps_between_u64(page, end_page), out)
 }

@@ -2,21 +2,21 @@
 use native.Mathlib.Omega.{arith}
 use lib.ListN.{length}
 use borrow.Author.Tests.{le-leb, lt-leb}
-use Rattle.convention.specs.Images.{leavesList}
+use Rattle.convention.specs.Images.{leavesList, listedLength}
 use borrow.Author.Needs.{needs}
 use Rattle.wuohtan.proofs.images.wuohtan_list.Statement.{statement}
 use Rattle.wuohtan.proofs.images.wuohtan_list.Tie as tie
 
 returns : tie.Need-returns
 unfolding leavesList
-returns c = simp (lt-leb 3 (length (c .before .before .before .before .args .out .now)) (omega arith))
+returns c = simp (lt-leb listedLength (length (c .before .before .before .before .args .out .now)) (omega arith))
 
 returns-2 : tie.Need-returns-2
 unfolding leavesList
 returns-2 c =
     let a = c .before .before .before .before .before .before .before .before .before .before .before .before .args in
     rw (
-      le-leb 3 (length (a .out .now)) (omega arith),
+      le-leb listedLength (length (a .out .now)) (omega arith),
       ← c .before .before .before .before .before .before .list .ensures,
       c .before .before .give-listed .ensures,
     )

@@ -6,26 +6,31 @@ use Rattle.wuohtan.proofs.pages.wuohtan_page_page_table_index.Statement
 use Rattle.wuohtan.proofs.pages.wuohtan_page_page_table_index.Tie as tie
 
 returns : tie.Need-returns
-unfolding leaves
 returns c =
-    simp (size-missing (c .before .before .before .before .args .size) (c .before .before .choose-size .result) (c .before .before .choose-size .ensures) (c .enum-told .given .1))
+    let r = c .before .before in
+    size-missing (r .before .before .args .size) _ (rw (c .enum-told .given .1) at (r .choose-page .ensures)) _ _
 
 returns-2 : tie.Need-returns-2
 unfolding leaves
 returns-2 c =
-    simp (
-      size-chosen (c .before .before .before .before .before .before .before .before .args .size) (c .before .before .before .before .before .before .choose-size .result) (c .before .before .before .before .before .before .choose-size .ensures) _ (c .before .before .before .before .s .given .1) .0,
-      level-missing (c .before .before .before .before .before .before .before .before .args .level) (c .before .before .choose-level .result) (c .before .before .choose-level .ensures) (c .enum-told2 .given .1),
-    )
+    let q = c .before .before in
+    let v = q .before .before in
+    let r = v .before .before in
+    let a = r .before .before .args in
+    let s = size-chosen (a .size) _ _ (rw (v .page .given .1) at (r .choose-page .ensures)) in
+    simp (s .is-size, level-missing (a .level) (q .choose-level .result) (q .choose-level .ensures) (c .enum-told2 .given .1))
 
 returns-3 : tie.Need-returns-3
 returns-3 c =
-    let p1 = size-chosen (c .before .before .before .before .before .before .before .before .before .before .before .before .before .before .args .size) (c .before .before .before .before .before .before .before .before .before .before .before .before .choose-size .result) (c .before .before .before .before .before .before .before .before .before .before .before .before .choose-size .ensures) _ (c .before .before .before .before .before .before .before .before .before .before .s .given .1) in
-    let p2 = level-chosen (c .before .before .before .before .before .before .before .before .before .before .before .before .before .before .args .level) (c .before .before .before .before .before .before .before .before .choose-level .result) (c .before .before .before .before .before .before .before .before .choose-level .ensures) _ (c .before .before .before .before .before .before .l .given .1) in
-    simp (
-      p1 .0,
-      p2 .0,
-    ) (rw (c .before .before .before .before .page-table-index .ensures, p1 .1, p2 .1) at (c .before .before .give-index .ensures))
+    let b = c .before .before .before .before in
+    let u = b .before .before in
+    let q = u .before .before in
+    let v = q .before .before in
+    let r = v .before .before in
+    let a = r .before .before .args in
+    let s = size-chosen (a .size) _ _ (rw (v .page .given .1) at (r .choose-page .ensures)) in
+    let l = level-chosen (a .level) (q .choose-level .result) (q .choose-level .ensures) _ (u .l .given .1) in
+    simp (s .is-size, l .0) (rw (b .page-table-index .ensures, s .read, s .bytes, l .1) at (c .before .before .give-index .ensures))
 
 pub wuohtan-page-page-table-index-spec : {M : Type 1} → statement M
 wuohtan-page-page-table-index-spec =
