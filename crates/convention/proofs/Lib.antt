@@ -1,3 +1,4 @@
 pub mod Stored
 pub mod Choice
 pub mod Bounded
+pub mod ListCalls
