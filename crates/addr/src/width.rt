@@ -1,7 +1,7 @@
 // The width of virtual addresses, and what depends on it.
 ghost use mathlib.Core.Path.{_≡_};
 ghost use Prim.Native.Nat.{_^_};
-ghost use Rattle.laws.specs.Width.{low, signExtend, canonical};
+ghost use Rattle.laws.specs.Width.{low, half, firstHigh, signExtend, canonical};
 ghost use Rattle.addr.specs.Widths.{widthOf};
 
 // 48 bits with four levels of tables, 57 with five. The names of the source, and all that pages, images
@@ -21,6 +21,20 @@ impl Width {
             Width::Bits48 => 0x1_0000_0000_0000,
             Width::Bits57 => 0x200_0000_0000_0000,
         }
+    }
+
+    // How many addresses each half has: the first number above the low half.
+    pub fn half(self) -> u64
+        ensures { λ r. ⌜ r ≡ half (widthOf self) ⌝ }
+    {
+        self.size() / 2
+    }
+
+    // The first address of the high half.
+    pub fn first_high(self) -> u64
+        ensures { λ r. ⌜ r ≡ firstHigh (widthOf self) ⌝ }
+    {
+        u64::MAX - (self.half() - 1)
     }
 
     // The number's part below the width.
@@ -47,10 +61,9 @@ impl Width {
     pub fn is_canonical(self, addr: u64) -> bool
         ensures { λ r. ⌜ r ≡ canonical (widthOf self) addr ⌝ }
     {
-        let half = self.size() / 2;
-        if addr < half {
+        if addr < self.half() {
             return true;
         }
-        u64::MAX - (half - 1) <= addr
+        self.first_high() <= addr
     }
 }

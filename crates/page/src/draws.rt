@@ -6,7 +6,6 @@ use addr::Width;
 use draw::Item;
 use table::PageSize;
 ghost use mathlib.Core.Path.{_≡_};
-ghost use Rattle.laws.specs.Width.{half, firstHigh};
 ghost use Rattle.laws.specs.Draw.{gapFrontBelow, gapFrontThrough, gapBackBelow, gapBackThrough};
 ghost use Rattle.table.specs.Level.{bytesOf};
 ghost use Rattle.addr.specs.Widths.{widthOf};
@@ -38,29 +37,15 @@ pub(crate) fn top_page(size: PageSize) -> u64
     u64::MAX - (size.bytes() - 1)
 }
 
-// The first number above the low half.
-fn half_of(width: Width) -> u64
-    ensures { λ r. ⌜ r ≡ half (widthOf width) ⌝ }
-{
-    width.size() / 2
-}
-
-// The first address of the high half.
-fn first_high(width: Width) -> u64
-    ensures { λ r. ⌜ r ≡ firstHigh (widthOf width) ⌝ }
-{
-    u64::MAX - (half_of(width) - 1)
-}
-
 // From the front of an exclusive range: a low start, a high end, and n reaches the last low page.
 pub(crate) fn gap_front_below(width: Width, start: u64, end: u64, size: PageSize, n: u64) -> bool
     ensures { λ r. ⌜ r ≡ gapFrontBelow (widthOf width) start end (bytesOf size) n ⌝ }
 {
-    let half = half_of(width);
+    let half = width.half();
     if half <= start {
         return false;
     }
-    if end < first_high(width) {
+    if end < width.first_high() {
         return false;
     }
     let pages = size.count(half - start);
@@ -75,7 +60,7 @@ pub(crate) fn gap_front_below(width: Width, start: u64, end: u64, size: PageSize
 pub(crate) fn gap_front_through(width: Width, start: u64, end: u64, size: PageSize, n: u64) -> bool
     ensures { λ r. ⌜ r ≡ gapFrontThrough (widthOf width) start end (bytesOf size) n ⌝ }
 {
-    let half = half_of(width);
+    let half = width.half();
     if half <= start {
         return false;
     }
@@ -94,11 +79,11 @@ pub(crate) fn gap_front_through(width: Width, start: u64, end: u64, size: PageSi
 pub(crate) fn gap_back_below(width: Width, start: u64, end: u64, size: PageSize, n: u64) -> bool
     ensures { λ r. ⌜ r ≡ gapBackBelow (widthOf width) start end (bytesOf size) n ⌝ }
 {
-    let high = first_high(width);
+    let high = width.first_high();
     if end < high {
         return false;
     }
-    if half_of(width) <= start {
+    if width.half() <= start {
         return false;
     }
     size.count(end - high) <= n
@@ -109,7 +94,7 @@ pub(crate) fn gap_back_below(width: Width, start: u64, end: u64, size: PageSize,
 pub(crate) fn gap_back_through(width: Width, start: u64, end: u64, size: PageSize, n: u64) -> bool
     ensures { λ r. ⌜ r ≡ gapBackThrough (widthOf width) start end (bytesOf size) n ⌝ }
 {
-    let high = first_high(width);
+    let high = width.first_high();
     if end < high {
         return false;
     }

@@ -21,8 +21,8 @@ returns c =
     let f = c .before .first-high .ensures in
     simp (lt-leb (firstHigh (widthOf (b .args .width))) (b .args .end) (omega arith))
 
-half-of-requires : tie.Need-half-of-requires
-half-of-requires c κs = search needs
+half-requires : tie.Need-half-requires
+half-requires c κs = search needs
 
 returns-2 : tie.Need-returns-2
 unfolding gapBackBelow
@@ -30,7 +30,7 @@ returns-2 c =
     let b = c .before .before .before .before in
     let w = widthOf (b .args .width) in
     let f = c .before .before .before .first-high .ensures in
-    let h = c .before .half-of .ensures in
+    let h = c .before .half .ensures in
     simp (le-leb (firstHigh w) (b .args .end) (omega arith), le-ltb (b .args .start) (half w) (omega arith))
 
 count-requires : tie.Need-count-requires
@@ -42,11 +42,11 @@ returns-3 c =
     let b = c .before .before .before .before .before in
     let w = widthOf (b .args .width) in
     let f = c .before .before .before .before .first-high .ensures in
-    let h = c .before .before .half-of .ensures in
+    let h = c .before .before .half .ensures in
     let d : c .count .result ≡ (b .args .end - firstHigh w) / bytesOf (b .args .size) = rw f at (c .count .ensures) in
     simp (le-leb (firstHigh w) (b .args .end) (omega arith), lt-ltb (b .args .start) (half w) (omega arith)) (rw d)
 
 pub gap-back-below-spec : {M : Type 1} → statement M
 gap-back-below-spec =
     tie.close
-    (tie.spec first-high-requires returns half-of-requires returns-2 count-requires returns-3)
+    (tie.spec first-high-requires returns half-requires returns-2 count-requires returns-3)

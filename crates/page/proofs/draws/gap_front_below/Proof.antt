@@ -12,14 +12,14 @@ use borrow.Author.Needs.{needs}
 use Rattle.page.proofs.draws.gap_front_below.Statement.{statement}
 use Rattle.page.proofs.draws.gap_front_below.Tie as tie
 
-half-of-requires : tie.Need-half-of-requires
-half-of-requires c κs = search needs
+half-requires : tie.Need-half-requires
+half-requires c κs = search needs
 
 returns : tie.Need-returns
 unfolding gapFrontBelow
 returns c =
     let b = c .before .before in
-    let h = c .before .half-of .ensures in
+    let h = c .before .half .ensures in
     simp (le-ltb (b .args .start) (half (widthOf (b .args .width))) (omega arith))
 
 first-high-requires : tie.Need-first-high-requires
@@ -30,7 +30,7 @@ unfolding gapFrontBelow
 returns-2 c =
     let b = c .before .before .before .before in
     let w = widthOf (b .args .width) in
-    let h = c .before .before .before .half-of .ensures in
+    let h = c .before .before .before .half .ensures in
     let f = c .before .first-high .ensures in
     simp (lt-ltb (b .args .start) (half w) (omega arith), lt-leb (firstHigh w) (b .args .end) (omega arith))
 
@@ -45,7 +45,7 @@ unfolding gapFrontBelow
 returns-3 c =
     let b = c .before .before .before .before .before .before in
     let w = widthOf (b .args .width) in
-    let h = c .before .before .before .before .before .half-of .ensures in
+    let h = c .before .before .before .before .before .half .ensures in
     let f = c .before .before .before .first-high .ensures in
     let d : c .before .count .result ≡ (half w - b .args .start) / bytesOf (b .args .size) = rw h at (c .before .count .ensures) in
     simp (
@@ -62,7 +62,7 @@ unfolding gapFrontBelow
 returns-4 c =
     let b = c .before .before .before .before .before .before in
     let w = widthOf (b .args .width) in
-    let h = c .before .before .before .before .before .half-of .ensures in
+    let h = c .before .before .before .before .before .half .ensures in
     let f = c .before .before .before .first-high .ensures in
     let d : c .before .count .result ≡ (half w - b .args .start) / bytesOf (b .args .size) = rw h at (c .before .count .ensures) in
     simp (lt-ltb (b .args .start) (half w) (omega arith), le-leb (firstHigh w) (b .args .end) (omega arith))
@@ -72,7 +72,7 @@ pub gap-front-below-spec : {M : Type 1} → statement M
 gap-front-below-spec =
     tie.close
     (tie.spec
-    half-of-requires
+    half-requires
     returns
     first-high-requires
     returns-2

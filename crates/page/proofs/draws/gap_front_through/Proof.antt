@@ -13,15 +13,15 @@ use Rattle.page.proofs.Ranges.{room-of}
 use Rattle.page.proofs.draws.gap_front_through.Statement.{statement}
 use Rattle.page.proofs.draws.gap_front_through.Tie as tie
 
-half-of-requires : tie.Need-half-of-requires
-half-of-requires c κs = search needs
+half-requires : tie.Need-half-requires
+half-requires c κs = search needs
 
 returns : tie.Need-returns
 unfolding gapFrontThrough
 returns c =
     let b = c .before .before in
     let w = widthOf (b .args .width) in
-    let h = c .before .half-of .ensures in
+    let h = c .before .half .ensures in
     simp (le-ltb (b .args .start) (half w) (omega arith))
 
 bytes-requires : tie.Need-bytes-requires
@@ -31,7 +31,7 @@ sub-if2 : tie.Need-sub-if2
 sub-if2 c =
     let b = c .before .before .before in
     let w = widthOf (b .args .width) in
-    let h = c .before .before .half-of .ensures in
+    let h = c .before .before .half .ensures in
     omega (arith, c .bytes .ensures, room-of (b .args .width) (b .args .size))
 
 returns-2 : tie.Need-returns-2
@@ -39,7 +39,7 @@ unfolding gapFrontThrough
 returns-2 c =
     let b = c .before .before .before .before in
     let w = widthOf (b .args .width) in
-    let h = c .before .before .before .half-of .ensures in
+    let h = c .before .before .before .half .ensures in
     simp (
       lt-ltb (b .args .start) (half w) (omega arith),
       lt-leb (half w - bytesOf (b .args .size)) (b .args .end) (omega (arith, c .before .bytes .ensures)),
@@ -56,7 +56,7 @@ unfolding gapFrontThrough
 returns-3 c =
     let b = c .before .before .before .before .before .before in
     let w = widthOf (b .args .width) in
-    let h = c .before .before .before .before .before .half-of .ensures in
+    let h = c .before .before .before .before .before .half .ensures in
     let d : c .before .count .result ≡ (half w - b .args .start) / bytesOf (b .args .size) = rw h at (c .before .count .ensures) in
     simp (
       lt-ltb (b .args .start) (half w) (omega arith),
@@ -72,7 +72,7 @@ unfolding gapFrontThrough
 returns-4 c =
     let b = c .before .before .before .before .before .before in
     let w = widthOf (b .args .width) in
-    let h = c .before .before .before .before .before .half-of .ensures in
+    let h = c .before .before .before .before .before .half .ensures in
     let d : c .before .count .result ≡ (half w - b .args .start) / bytesOf (b .args .size) = rw h at (c .before .count .ensures) in
     simp (
       lt-ltb (b .args .start) (half w) (omega arith),
@@ -83,7 +83,7 @@ pub gap-front-through-spec : {M : Type 1} → statement M
 gap-front-through-spec =
     tie.close
     (tie.spec
-    half-of-requires
+    half-requires
     returns
     bytes-requires
     sub-if2
