@@ -13,7 +13,7 @@ use Rattle.mapping.specs.Search.{Answer, answersFrom, leftAfter}
 use Rattle.addr.specs.Item.{Item, item}
 use Rattle.page.specs.Page as page
 use Rattle.image.specs.Translate.{rootTable, pageNumber}
-use Rattle.image.specs.Search.{Report, pageItem, report, reportWords, searchRefusal, imagePages}
+use Rattle.image.specs.Search.{Report, pageItem, report, reportWords, answerWords, searchRefusal, imagePages}
 use Rattle.image.specs.Found.{foundOf}
 use Rattle.image.specs.declared.found.Found.{Found}
 use Rattle.image.specs.declared.list_searches.ListAnswer.{ListAnswer}
@@ -38,9 +38,9 @@ pub record Listing : Type 0 where
   pub answer : Outcome Listed
   pub words : List ℕ
 
--- the answers that have room in the lent words, five words each
+-- the answers that have room in the lent words
 abbrev pub room : List ℕ → ℕ
-room out = length out / 5
+room out = length out / answerWords
 
 abbrev pub listedFrom : ℕ → Space → (p : ℕ) → List ℕ → Listed
 listedFrom w s p out =
@@ -74,4 +74,4 @@ listingOf r out = record { answer = listedOf r; words = out }
 
 -- an answer's words at a place of the lent ones, all else as it was
 abbrev pub Stored : (i : ℕ) → Found → List ℕ → List ℕ → Type 0
-Stored i f before after = (a : Answer) → f ≡ foundOf a → after ≡ take i before ++ (reportWords (report 48 a) ++ drop (i + 5) before)
+Stored i f before after = (a : Answer) → f ≡ foundOf a → after ≡ take i before ++ (reportWords (report 48 a) ++ drop (i + answerWords) before)

@@ -9,20 +9,20 @@ use Rattle.answer.specs.Outcome.{gives}
 use Rattle.mapping.specs.Agreement.{Agreement}
 use Rattle.addr.specs.Item.{Item}
 use Rattle.image.specs.Translate.{imageRefusal}
-use Rattle.image.specs.Search.{Report}
-use Rattle.image.specs.List.{Listed, Listing, allWords, listing}
+use Rattle.image.specs.Search.{Report, answerWords}
+use Rattle.image.specs.List.{Listed, Listing, allWords, room, listing}
 use Rattle.image.specs.Agreement.{IsPage, Reports, translatedPages, callFrom}
 
 -- calls of `list`, one or more, each with any words lent and from the page that the one before it left: the address of the first page, the words that they wrote, one
 -- after the other, and the page that the last of them left, none once the search is over
 pub data Chain (call : ℕ → List ℕ → Listing) : ℕ → List ℕ → Option Item → Type 0 where
-  one : {a : ℕ} {l : Listed} → (out : List ℕ) → call a out .answer ≡ gives l → Chain call a (take (5 * l .written) (call a out .words)) (l .next)
+  one : {a : ℕ} {l : Listed} → (out : List ℕ) → call a out .answer ≡ gives l → Chain call a (take (answerWords * l .written) (call a out .words)) (l .next)
   more : {a : ℕ} {l : Listed} {p : Item} {words : List ℕ} {e : Option Item} → (out : List ℕ) → call a out .answer ≡ gives l → l .next ≡ some p
-      → Chain call (p .start) words e → Chain call a (take (5 * l .written) (call a out .words) ++ words) e
+      → Chain call (p .start) words e → Chain call a (take (answerWords * l .written) (call a out .words) ++ words) e
 
 -- a call that is answered, and that either is over or wrote as many answers as have room
 abbrev pub Answered : (call : ℕ → List ℕ → Listing) → (a : ℕ) → List ℕ → Type 0
-Answered call a out = (l : Listed) × (call a out .answer ≡ gives l) × ((p : Item) → l .next ≡ some p → l .written ≡ length out / 5)
+Answered call a out = (l : Listed) × (call a out .answer ≡ gives l) × ((p : Item) → l .next ≡ some p → l .written ≡ room out)
 
 -- the claims about a chain from page zero: the words that it wrote, and the page that it left
 pub record ChainAgrees (w levels : ℕ) (image : List ℕ) (base root : ℕ) (words : List ℕ) (left : Option Item) : Type 0 where

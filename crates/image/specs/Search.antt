@@ -46,6 +46,10 @@ reportWords (run p f c h) = 1 ∷ p .start ∷ f .start ∷ c ∷ rightsBits h �
 reportWords (stop p l reserved) = 2 ∷ p .start ∷ l ∷ 0 ∷ 0 ∷ []
 reportWords (stop p l outside) = 3 ∷ p .start ∷ l ∷ 0 ∷ 0 ∷ []
 
+-- how many words that is
+abbrev pub answerWords : ℕ
+answerWords = 5
+
 -- the pages of an image, by the words of its root table
 abbrev pub imagePages : (levels : ℕ) → List ℕ → (base : ℕ) → List ℕ → Space
 imagePages levels image base t = space (entry 52 true) (tableAt image base) levels t

@@ -16,13 +16,14 @@ pub(crate) const PAGES: u64 = 0x10_0000_0000;
 
 const FIRST_HIGH: u64 = 0x8_0000_0000;
 
-pub(crate) const END: u64 = 0;
+// The kinds of answers; what is none of these is a stop outside the image.
+pub const END: u64 = 0;
 
-pub(crate) const RUN: u64 = 1;
+pub const RUN: u64 = 1;
 
-pub(crate) const RESERVED: u64 = 2;
+pub const RESERVED: u64 = 2;
 
-// An answer: its kind (0 end, 1 run, 2 and 3 a stop that is reserved or outside), its page, the first frame of a run or the level of a stop, a run's count, and its rights as three bits.
+// An answer: its kind, its page, the first frame of a run or the level of a stop, a run's count, and its rights as three bits.
 pub(crate) struct Found {
     pub(crate) kind: u64,
     pub(crate) page: u64,

@@ -13,6 +13,10 @@ mod span;
 mod translation;
 mod walk;
 
+pub use found::END;
+pub use found::RESERVED;
+pub use found::RUN;
+pub use list_searches::ANSWER_WORDS;
 pub use list_searches::ListAnswer;
 pub use list_searches::list;
 pub use rights::Rights;

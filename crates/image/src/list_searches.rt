@@ -14,6 +14,7 @@ ghost use mathlib.Core.Path.{_≡_};
 ghost use Prim.Native.Nat.{_+_, _≤_};
 ghost use lib.ListN.{length};
 ghost use Rattle.image.specs.Found.{OfAnswer};
+ghost use Rattle.image.specs.Search.{answerWords};
 ghost use Rattle.image.specs.List.{listingOf, listing, Stored};
 
 pub enum ListAnswer {
@@ -25,12 +26,12 @@ pub enum ListAnswer {
 }
 
 // How many words an answer takes.
-const WORDS: usize = 5;
+pub const ANSWER_WORDS: usize = 5;
 
 // Stores an answer: its kind (0 end, 1 run, 2 and 3 a stop that is reserved or outside), the address of its page, the address of its frame or its level, its count,
 // its rights as bits.
 fn store(out: &mut [u64], at: usize, found: Found)
-    requires { ⌜ (at + 5 ≤ length (now out)) × OfAnswer found ⌝ }
+    requires { ⌜ (at + answerWords ≤ length (now out)) × OfAnswer found ⌝ }
     ensures { λ _. ⌜ Stored at found (now (out .entry)) (now (out .exit)) ⌝ }
 {
     let kind = found.kind;
@@ -66,14 +67,14 @@ pub fn list(
     let mut written = 0;
     let mut used = 0;
     while at < PAGES {
-        if out.len() - used < WORDS {
+        if out.len() - used < ANSWER_WORDS {
             return ListAnswer::More(written, numbered_page(at));
         }
         let found = find(image, base.0, root.0, at);
         store(out, used, found);
         at = next_page(found);
         written += 1;
-        used += WORDS;
+        used += ANSWER_WORDS;
     }
     ListAnswer::Over(written)
 }

@@ -9,7 +9,3 @@ mostLines = 4096
 -- all lines, with the last one
 abbrev pub outputBytes : ℕ
 outputBytes = (mostLines + 1) * lineBytes
-
--- an answer of a list has five words
-abbrev pub answerWords : ℕ
-answerWords = 5

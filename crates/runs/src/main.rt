@@ -1,7 +1,11 @@
 // Reads an image file from standard input and prints its mapped runs and stops, a line each.
 use addr::PhysAddr;
 use addr::VirtAddr;
+use image::ANSWER_WORDS;
+use image::END;
 use image::ListAnswer;
+use image::RESERVED;
+use image::RUN;
 use image::SearchAnswer;
 use image::list;
 use image::search;
@@ -23,20 +27,11 @@ use page::Page;
 ghost use Prim.Native.Nat.{_+_, _*_, _/_, _≤_};
 ghost use lib.ListN.{length};
 ghost use Rattle.listing.specs.Text.{lineBytes};
-ghost use Rattle.runs.specs.Sizes.{answerWords, outputBytes};
+ghost use Rattle.image.specs.Search.{answerWords};
+ghost use Rattle.runs.specs.Sizes.{outputBytes};
 
 // The most runs and stops that are printed.
 const MOST_LINES: usize = 4096;
-
-// The words that an answer has in a list: its kind, its page, its frame or its level, its count, its rights.
-const ANSWER_WORDS: usize = 5;
-
-// The kinds of answers, but for a stop outside the image.
-const END: u64 = 0;
-
-const RUN: u64 = 1;
-
-const RESERVED: u64 = 2;
 
 fn least(a: usize, b: usize) -> usize
     ensures { λ r. ⌜ (r ≤ a) × (r ≤ b) ⌝ }
