@@ -103,7 +103,7 @@ pub fn choose_frame(start: u64, bytes: u64) -> FrameChoice
     let SizeChoice::Size(s) = choose_size(bytes) else {
         return FrameChoice::None;
     };
-    FrameChoice::Frame(frame_at(start, s))
+    FrameChoice::Frame(frame_at(s, start))
 }
 
 // The range from a start to an end, each with its number of bytes.
@@ -114,8 +114,8 @@ pub fn choose_frame_range(start: u64, start_size: u64, end: u64, end_size: u64) 
         return FrameRangeChoice::None;
     };
     FrameRangeChoice::Range(PhysFrameRange {
-        start: frame_at(start, s),
-        end: frame_at(end, t),
+        start: frame_at(s, start),
+        end: frame_at(t, end),
     })
 }
 
@@ -131,8 +131,8 @@ pub fn choose_frame_range_inclusive(
         return FrameRangeInclusiveChoice::None;
     };
     FrameRangeInclusiveChoice::Range(PhysFrameRangeInclusive {
-        start: frame_at(start, s),
-        end: frame_at(end, t),
+        start: frame_at(s, start),
+        end: frame_at(t, end),
     })
 }
 
@@ -143,7 +143,7 @@ pub fn choose_page(start: u64, bytes: u64) -> PageChoice
     let SizeChoice::Size(s) = choose_size(bytes) else {
         return PageChoice::None;
     };
-    PageChoice::Page(page_at(start, s))
+    PageChoice::Page(page_at(s, start))
 }
 
 pub fn choose_page_range(start: u64, start_size: u64, end: u64, end_size: u64) -> PageRangeChoice
@@ -153,8 +153,8 @@ pub fn choose_page_range(start: u64, start_size: u64, end: u64, end_size: u64) -
         return PageRangeChoice::None;
     };
     PageRangeChoice::Range(PageRange {
-        start: page_at(start, s),
-        end: page_at(end, t),
+        start: page_at(s, start),
+        end: page_at(t, end),
     })
 }
 
@@ -170,12 +170,12 @@ pub fn choose_page_range_inclusive(
         return PageRangeInclusiveChoice::None;
     };
     PageRangeInclusiveChoice::Range(PageRangeInclusive {
-        start: page_at(start, s),
-        end: page_at(end, t),
+        start: page_at(s, start),
+        end: page_at(t, end),
     })
 }
 
-fn frame_at(start: u64, size: PageSize) -> PhysFrame
+fn frame_at(size: PageSize, start: u64) -> PhysFrame
     ensures { λ r. ⌜ r ≡ frameAt size start ⌝ }
 {
     PhysFrame {
@@ -184,7 +184,7 @@ fn frame_at(start: u64, size: PageSize) -> PhysFrame
     }
 }
 
-fn page_at(start: u64, size: PageSize) -> Page
+fn page_at(size: PageSize, start: u64) -> Page
     ensures { λ r. ⌜ r ≡ pageAt size start ⌝ }
 {
     Page {
