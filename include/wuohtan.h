@@ -9,7 +9,11 @@
  *   any other         the number of the refusal
  *
  * Unless the status is WUOHTAN_ANSWERED, out is left as it was; if it is, so is the part of out
- * behind the answer's words. A truth value is a word, 1 or 0. out is never null.
+ * behind the answer's words. A truth value is a word, 1 or 0.
+ *
+ * What is lent (out, image, answers) is a pointer to words, aligned as uint64_t is, and their count.
+ * The pointer may be null where the count is 0, and only there. What is lent in one call must not
+ * overlap, and until it returns nobody else writes it, nor reads what the call may write.
  */
 #ifndef WUOHTAN_H
 #define WUOHTAN_H

@@ -1,5 +1,7 @@
 //! The port, as include/wuohtan.h declares it.
 
+use std::ptr;
+
 use crate::answer::{Answer, ANSWERED, MOST_WORDS, NO_ROOM};
 
 /// The numbers of arguments that functions have; all that depends on that number is made here.
@@ -22,7 +24,9 @@ macro_rules! arities {
         impl Function {
             #[inline]
             pub fn call(self, args: &[u64], out: &mut [u64]) -> u8 {
-                let (words, len) = (out.as_mut_ptr(), out.len());
+                let len = out.len();
+                // A null pointer may stand where no words are lent.
+                let words = if len == 0 { ptr::null_mut() } else { out.as_mut_ptr() };
                 match (self, args) {
                     // SAFETY: the function writes to the `len` words at `out` and nothing else.
                     $((Function::$name(f), &[$($arg),*]) => unsafe { f($($arg,)* words, len) },)*

@@ -5,7 +5,7 @@
 
 mod list;
 
-use std::fmt;
+use std::{fmt, ptr, slice};
 
 use generator::Generator;
 
@@ -223,6 +223,37 @@ fn ask(function: Function, image: &Image, place: u64, words: usize) -> Result<An
     Ok(answer)
 }
 
+/// Where lent words are: a null pointer may stand where there are none.
+fn place_of(words: &[u64]) -> *const u64 {
+    match words {
+        [] => ptr::null(),
+        words => words.as_ptr(),
+    }
+}
+
+/// The same of words that are lent to be written.
+fn place_to_write(words: &mut [u64]) -> *mut u64 {
+    match words {
+        [] => ptr::null_mut(),
+        words => words.as_mut_ptr(),
+    }
+}
+
+/// The other way: so many words at a place.
+pub(crate) unsafe fn lent<'a>(place: *const u64, len: usize) -> &'a [u64] {
+    match len {
+        0 => &[],
+        len => slice::from_raw_parts(place, len),
+    }
+}
+
+pub(crate) unsafe fn lent_to_write<'a>(place: *mut u64, len: usize) -> &'a mut [u64] {
+    match len {
+        0 => &mut [],
+        len => slice::from_raw_parts_mut(place, len),
+    }
+}
+
 /// Asks with so much room. If the function answers, the answer has `words` words.
 fn ask_with(
     function: Function,
@@ -232,14 +263,14 @@ fn ask_with(
 ) -> Result<Answer, String> {
     let mut out = [PATTERN; ROOM];
     let Image {
-        words: lent,
+        words: read,
         base,
         root,
     } = image;
     // SAFETY: the function reads the image's words and writes to `room` words at `out`.
     let status = unsafe {
-        let out = out.as_mut_ptr();
-        function(lent.as_ptr(), lent.len(), *base, *root, place, out, room)
+        let out = place_to_write(&mut out[..room]);
+        function(place_of(read), read.len(), *base, *root, place, out, room)
     };
     let written = if status == ANSWERED { words } else { 0 };
     if let Some(place) = (written..ROOM).find(|&place| out[place] != PATTERN) {
@@ -256,8 +287,6 @@ fn ask_with(
 
 #[cfg(test)]
 mod tests {
-    use std::slice;
-
     use super::*;
     use crate::generate::{Case, FAMILIES};
 
@@ -270,12 +299,12 @@ mod tests {
         place: u64,
         (out, room): (*mut u64, usize),
     ) -> u8 {
-        let words = slice::from_raw_parts(image, words).to_vec();
+        let words = lent(image, words).to_vec();
         let answer = asked(&Image { words, base, root }, place);
         if answer.words.len() > room {
             return NO_ROOM;
         }
-        slice::from_raw_parts_mut(out, answer.words.len()).copy_from_slice(&answer.words);
+        lent_to_write(out, answer.words.len()).copy_from_slice(&answer.words);
         answer.status
     }
 

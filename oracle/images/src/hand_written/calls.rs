@@ -1,10 +1,8 @@
 //! The convention of the port's functions, so that both are called alike.
 
-use std::slice;
-
 use super::pass::WORDS;
 use super::{list, translate, Listed, Tables, Translation};
-use crate::library::{Library, ListFunction, ANSWERED, NO_ROOM};
+use crate::library::{lent, lent_to_write, Library, ListFunction, ANSWERED, NO_ROOM};
 
 pub const HAND_WRITTEN: Library = Library {
     translate: call_translate,
@@ -24,8 +22,8 @@ unsafe extern "C" fn call_translate(
     out: *mut u64,
     room: usize,
 ) -> u8 {
-    let words = slice::from_raw_parts(image, words);
-    let out = slice::from_raw_parts_mut(out, room);
+    let words = lent(image, words);
+    let out = lent_to_write(out, room);
     let answer = match translate(Tables { words, base, root }, address) {
         Err(number) => return number,
         Ok(Translation::Mapped {
@@ -49,8 +47,8 @@ unsafe extern "C" fn call_search(
     out: *mut u64,
     room: usize,
 ) -> u8 {
-    let words = slice::from_raw_parts(image, words);
-    let out = slice::from_raw_parts_mut(out, room);
+    let words = lent(image, words);
+    let out = lent_to_write(out, room);
     let mut answer = [0; WORDS];
     match list(Tables { words, base, root }, page, &mut answer) {
         Err(number) => number,
@@ -71,9 +69,9 @@ macro_rules! list_calls {
             out: *mut u64,
             room: usize,
         ) -> u8 {
-            let words = slice::from_raw_parts(image, words);
-            let answers = slice::from_raw_parts_mut(answers, answers_room);
-            let out = slice::from_raw_parts_mut(out, room);
+            let words = lent(image, words);
+            let answers = lent_to_write(answers, answers_room);
+            let out = lent_to_write(out, room);
             if out.len() < 3 {
                 return NO_ROOM;
             }

@@ -2,7 +2,9 @@
 
 use generator::Generator;
 
-use super::{found_words, Difference, ListFunction, ANSWERED, NO_ROOM, PATTERN};
+use super::{
+    found_words, place_of, place_to_write, Difference, ListFunction, ANSWERED, NO_ROOM, PATTERN,
+};
 use crate::image::Image;
 use crate::reference::search::{Found, Lines};
 use crate::reference::{accept, page_address, page_at, PAGES};
@@ -85,14 +87,14 @@ fn ask(list: ListFunction, image: &Image, asked: Asked) -> Left {
     // and to `asked.out` words at `out`.
     let status = unsafe {
         list(
-            image.words.as_ptr(),
+            place_of(&image.words),
             image.words.len(),
             image.base,
             image.root,
             asked.place,
-            answers.as_mut_ptr(),
+            place_to_write(&mut answers[..asked.room]),
             asked.room,
-            out.as_mut_ptr(),
+            place_to_write(&mut out[..asked.out]),
             asked.out,
         )
     };
@@ -189,8 +191,7 @@ fn summary(asked: Asked, left: &Left, other: &Left) -> String {
 
 #[cfg(test)]
 pub(super) mod tests {
-    use std::slice;
-
+    use super::super::{lent, lent_to_write};
     use super::*;
     use crate::worked;
 
@@ -206,7 +207,7 @@ pub(super) mod tests {
         out: *mut u64,
         len: usize,
     ) -> u8 {
-        let words = slice::from_raw_parts(image, words).to_vec();
+        let words = lent(image, words).to_vec();
         let image = Image { words, base, root };
         let most = (room / WORDS).max(1);
         let asked = Asked {
@@ -215,8 +216,8 @@ pub(super) mod tests {
             out: len,
         };
         let left = Expected::of(&image, page, most).left(asked);
-        slice::from_raw_parts_mut(answers, room).copy_from_slice(&left.answers[..room]);
-        slice::from_raw_parts_mut(out, len).copy_from_slice(&left.out[..len]);
+        lent_to_write(answers, room).copy_from_slice(&left.answers[..room]);
+        lent_to_write(out, len).copy_from_slice(&left.out[..len]);
         left.status
     }
 
