@@ -1,6 +1,6 @@
 -- What a caller of the C function that lists reads is what `list` answers, so that its chains of calls agree as those of `list` do.
 use Prim.Native.Nat.{ℕ, zero, suc, _+_, _*_, _≤_}
-use mathlib.Core.Path.{_≡_, refl, subst, fun-ext}
+use mathlib.Core.Path.{_≡_, refl, sym, subst, fun-ext}
 use mathlib.Core.Bool.{Bool, true, false}
 use mathlib.Core.List.{List}
 use lib.Dec.{ltb}
@@ -16,7 +16,7 @@ use Rattle.addr.proofs.Widths.{widths}
 use Rattle.image.specs.Translate.{pageNumber, rootTable}
 use Rattle.image.specs.Search.{searchRefusal, imagePages}
 use Rattle.image.specs.List.{Listing, room, settled, listing}
-use Rattle.image.specs.ListAgreement.{Chain}
+use Rattle.image.specs.ListAgreement.{ChainsAgree}
 use Rattle.image.proofs.ListAgreement.{lists-agree}
 use Rattle.convention.specs.Status.{answered}
 use Rattle.convention.specs.Convention.{leaves}
@@ -41,10 +41,10 @@ read-list w levels image base root a answers own h =
     read-settled w (imagePages levels image base (rootTable image base root)) (pageNumber w a) answers own h (searchRefusal w image base root a)
 
 pub list-calls-agree : (w levels : ℕ) → IsWidth w → w ≡ 9 * levels + 12 → ListCallsAgree w levels
-list-calls-agree w levels v e image base root ok own h words left c =
-    lists-agree w levels v e image base root ok .1 words left
-    (subst (λ (call : ℕ → List ℕ → Listing). Chain call 0 words left)
-    (fun-ext (λ a. fun-ext (λ answers. read-list w levels image base root a answers (own a answers) (h a answers)))) c)
+list-calls-agree w levels v e image base root ok own h =
+    subst (λ (call : ℕ → List ℕ → Listing). ChainsAgree w levels image base root call)
+    (fun-ext (λ a. fun-ext (λ answers. sym (read-list w levels image base root a answers (own a answers) (h a answers)))))
+    (lists-agree w levels v e image base root ok)
 
 pub list-calls-agree-48 : ListCallsAgree 48 4
 list-calls-agree-48 = list-calls-agree 48 4 (widths Bits48) refl

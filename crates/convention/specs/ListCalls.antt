@@ -3,14 +3,14 @@ use Prim.Native.Nat.{ℕ, _≤_}
 use mathlib.Core.Path.{_≡_}
 use mathlib.Core.Bool.{cond}
 use mathlib.Core.List.{List}
-use mathlib.Core.Option.{Option, none, some}
+use mathlib.Core.Option.{none, some}
 use lib.Dec.{eqb}
 use lib.ListN.{length, getD}
 use Rattle.answer.specs.Outcome.{gives, refuses}
-use Rattle.addr.specs.Item.{Item, item}
+use Rattle.addr.specs.Item.{item}
 use Rattle.image.specs.Translate.{imageRefusal}
 use Rattle.image.specs.List.{Listing, listing}
-use Rattle.image.specs.ListAgreement.{Chain, ChainAgrees}
+use Rattle.image.specs.ListAgreement.{ChainsAgree}
 use Rattle.convention.specs.Status.{answered}
 use Rattle.convention.specs.Images.{LeftList, listedLength, leavesList}
 
@@ -27,11 +27,9 @@ readList l =
       words = l .answers;
     }
 
--- every chain of calls from page zero on an accepted image, with any words lent for the answers and enough for the call's own
+-- of every accepted image, with any words lent for the answers and enough for the call's own
 abbrev pub ListCallsAgree : (w levels : ℕ) → Type 0
 ListCallsAgree w levels =
     (image : List ℕ) (base root : ℕ) → imageRefusal image base root ≡ 0
     → (own : ℕ → List ℕ → List ℕ) → ((a : ℕ) (answers : List ℕ) → listedLength ≤ length (own a answers))
-    → (words : List ℕ) (left : Option Item)
-    → Chain (λ a answers. readList (leavesList (listing w levels image base root a answers) answers (own a answers))) 0 words left
-    → ChainAgrees w levels image base root words left
+    → ChainsAgree w levels image base root (λ a answers. readList (leavesList (listing w levels image base root a answers) answers (own a answers)))

@@ -28,7 +28,7 @@ use Rattle.image.specs.Translate.{translated, imageRefusal, rootTable, p
 use Rattle.image.specs.Search.{Report, pageItem, frameItem, report, imagePages, searchRefusal, searching}
 use Rattle.addr.specs.declared.width.Width.the-variants.{Bits48}
 use Rattle.addr.proofs.Widths.{widths}
-use Rattle.image.specs.Agreement.{stateIn, translatedPages, IsPage, Reported, Reports, callFrom, RunsAgree}
+use Rattle.image.specs.Agreement.{stateIn, translatedPages, PagesTranslated, IsPage, Reported, Reports, callFrom, RunsAgree}
 
 -- the state that translation answers is the one that the walk says
 state-translated : (a : ℕ) (s : Walked) → stateIn (gives (translated a s)) ≡ stateOf s
@@ -113,8 +113,12 @@ module _ (w levels : ℕ) (v : IsWidth w) (e : w ≡ 9 * levels + 12) where
         ∙ ap (λ (x : ℕ). stateOf (walked x)) (number-of n)
         ∙ ap stateOf (walk-low (entry 52 true) (tableAt image base) levels levels t allRights n (omega arith))
 
+    page-translated : PagesTranslated w levels image base root
+    unfolding translation
+    page-translated n h = (translated (start w 4096 n) (walked (pageNumber w (start w 4096 n))), rw (ok, sign-canonical w v (n * 4096)))
+
     -- the pages as translation answers them are the pages as the walk says
-    same-pages : translatedPages w levels image base root ≡ pages
+    pub same-pages : translatedPages w levels image base root ≡ pages
     same-pages = ap (λ (f : ℕ → PageState). record { page = f; size = 2 ^ (9 * levels); high = 2 ^ (9 * levels - 1); span = λ l. 2 ^ (9 * (l - 1)) }) (fun-ext page-state)
 
     pub passed : (n : ℕ) → searchRefusal w image base root (start w 4096 n) ≡ 0
@@ -143,9 +147,11 @@ module _ (w levels : ℕ) (v : IsWidth w) (e : w ≡ 9 * levels + 12) where
 
 -- at every width and number of levels that fit each other
 pub runs-agree : (w levels : ℕ) → IsWidth w → w ≡ 9 * levels + 12 → RunsAgree w levels
-runs-agree w levels v e image base root ok replies passed calls =
-    agrees w levels v e image base root ok replies passed
-    (subst (λ (s : Space). Calls s (Reports w) (callFrom w levels image base root) 0 replies passed) (same-pages w levels v e image base root ok) calls)
+runs-agree w levels v e image base root ok = (
+  page-translated w levels v e image base root ok,
+  λ replies passed calls. agrees w levels v e image base root ok replies passed
+      (subst (λ (s : Space). Calls s (Reports w) (callFrom w levels image base root) 0 replies passed) (same-pages w levels v e image base root ok) calls),
+)
 
 pub runs-agree-48 : RunsAgree 48 4
 runs-agree-48 = runs-agree 48 4 (widths Bits48) refl

@@ -11,5 +11,6 @@ pub mod ListKept
 pub mod ListWords
 pub mod ListTurns
 pub mod Agreement
+pub mod PageNumbers
 pub mod ListAgreement
 pub mod Unread

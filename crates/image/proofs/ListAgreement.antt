@@ -1,6 +1,6 @@
 -- What `list` writes, in one call or in several that follow each other, is the replies of a list of searches, so that it agrees with translating the pages singly.
 use Prim.Native.Nat.{ℕ, _+_, _*_, _^_, _≤_, _<_}
-use mathlib.Core.Path.{_≡_, refl, sym, ap, _∙_}
+use mathlib.Core.Path.{_≡_, refl, sym, ap, _∙_, subst}
 use mathlib.Core.Bool.{Bool, true, false, cond}
 use mathlib.Core.List.{List, _++_, map, map-append}
 use mathlib.Core.Option.{Option, none, some}
@@ -19,7 +19,7 @@ use Rattle.mapping.specs.Search.{Answer, Searches, answersFrom, leftAfter}
 use Rattle.mapping.specs.Search as searches
 use Rattle.mapping.specs.Agreement.{Calls}
 use Rattle.mapping.specs.Agreement as calls
-use Rattle.mapping.proofs.Some.{some-searches, all-there, join}
+use Rattle.mapping.proofs.Some.{some-searches, at-most, all-there, join}
 use Rattle.addr.specs.Item.{Item}
 use Rattle.addr.specs.declared.width.Width.the-variants.{Bits48}
 use Rattle.addr.proofs.Widths.{widths}
@@ -29,7 +29,7 @@ use Rattle.image.specs.List.{Listed, Listing, allWords, reportsFrom, roo
 use Rattle.image.specs.Agreement.{Reports, callFrom}
 use Rattle.image.specs.ListAgreement.{Chain, one, more, Answered, ChainAgrees, ListsAgree}
 use Rattle.image.proofs.ListWords.{all-length, all-append}
-use Rattle.image.proofs.Agreement.{number-back, is-page, passed, call-answered, calls-search, agrees}
+use Rattle.image.proofs.Agreement.{number-back, is-page, same-pages, passed, call-answered, calls-search, agrees}
 
 -- the page that a list leaves, by whether there is one
 left-some : (k n : ℕ) (x p : Item) → cond (ltb n k) (some x) none ≡ some p → (n < k) × (x ≡ p)
@@ -76,6 +76,7 @@ module _ (w : ℕ) (s : Space) (call : ℕ → List ℕ → Listing)
   answered n h out = (
     listedFrom w s n out,
     ap (λ (r : Listing). r .answer) (listed n out h),
+    at-most s (room out) n,
     λ p x. all-there s (room out) n (left-some (s .size) (leftAfter s (room out) n) (pageItem w (leftAfter s (room out) n)) p x .0),
   )
 
@@ -122,15 +123,18 @@ module _ (w levels : ℕ) (v : IsWidth w) (e : w ≡ 9 * levels + 12) (image : L
       rw (← call-answered w levels v e image base root ok n h)
       (calls.more h (calls-search w levels v e image base root ok .answer n h) (called r))
 
-  chain-agrees : (words : List ℕ) (left : Option Item) → Drawn w pages 0 words left → ChainAgrees w levels image base root words left
+  chain-agrees : (words : List ℕ) (left : Option Item) → Drawn w pages 0 words left → ChainAgrees w levels image base root call words left
   chain-agrees words left d =
-      let agreement = agrees w levels v e image base root ok (map gives (map (report w) (d .answers))) (d .reached) (called (d .searched)) in
+      let replies = map gives (map (report w) (d .answers)) in
+      let agreement = agrees w levels v e image base root ok replies (d .reached) (called (d .searched)) in
       let some-left : (p : Item) → left ≡ some p → (d .reached < pages .size) × (pageItem w (d .reached) ≡ p)
       = λ p x. left-some (pages .size) (d .reached) (pageItem w (d .reached)) p (sym (d .remains) ∙ x) in
       record {
         reports = map (report w) (d .answers);
         passed = d .reached;
         written = d .written;
+        searched =
+            subst (λ (s : Space). Calls s (Reports w) (callFrom w levels image base root) 0 replies (d .reached)) (sym (same-pages w levels v e image base root ok)) (called (d .searched));
         agreement = agreement;
         next-page = λ p x. (some-left p x .0, rw (← some-left p x .1) (is-page w levels v e (d .reached) (some-left p x .0)));
         over = λ x. omega (arith, left-none (pages .size) (d .reached) (pageItem w (d .reached)) (sym (d .remains) ∙ x), agreement .agrees .inside);

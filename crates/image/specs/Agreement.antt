@@ -1,6 +1,6 @@
 -- That the list of run searches from page zero agrees with translating all 4 KiB pages singly: document 01, "Words of demand 3". The claims about a list are those of
 -- crates/mapping/specs/Agreement.antt; here are the pages and the calls that they are about, for the width `w` with that many levels.
-use Prim.Native.Nat.{ℕ, _-_, _*_, _/_, _^_}
+use Prim.Native.Nat.{ℕ, _-_, _*_, _/_, _^_, _<_}
 use mathlib.Core.Path.{_≡_}
 use mathlib.Core.Bool.{true}
 use mathlib.Core.List.{List}
@@ -17,7 +17,7 @@ use Rattle.image.specs.Translate.{Translated, mapped, absent, broken, im
 use Rattle.image.specs.Search.{Report, end, stop, run, searching}
 
 -- "A 4 KiB page is mapped, absent, reserved or outside as translate answers for its first address; if mapped, its frame is the one at the physical address answered."
--- (An answer of another kind does not come for an accepted image: it would be none of these.)
+-- (`RunsAgree` says that an accepted image has no other answer for such an address; here one is read as absent.)
 abbrev pub stateIn : Outcome Translated → PageState
 stateIn (gives (mapped p z h)) = page.mapped (p / 4096) h
 stateIn (gives (absent l)) = page.absent
@@ -59,9 +59,15 @@ Reports w o a = (r : Report) × (o ≡ gives r) × Reported w a r
 abbrev pub callFrom : (w levels : ℕ) → List ℕ → (base root : ℕ) → ℕ → Outcome Report
 callFrom w levels image base root n = searching w levels image base root (start w 4096 n)
 
+-- translation gives an answer for the first address of every page
+abbrev pub PagesTranslated : (w levels : ℕ) → List ℕ → (base root : ℕ) → Type 0
+PagesTranslated w levels image base root = (n : ℕ) → n < 2 ^ (9 * levels) → (t : Translated) × (translation w levels image base root (start w 4096 n) ≡ gives t)
+
 -- "All this is one claim about the whole list of answers, whatever its length": of every list of calls from page zero on an image, base and root that are accepted
 abbrev pub RunsAgree : (w levels : ℕ) → Type 0
 RunsAgree w levels =
-    (image : List ℕ) (base root : ℕ) → imageRefusal image base root ≡ 0 → (replies : List (Outcome Report)) (passed : ℕ)
+    (image : List ℕ) (base root : ℕ) → imageRefusal image base root ≡ 0
+    → PagesTranslated w levels image base root
+    × ((replies : List (Outcome Report)) (passed : ℕ)
     → Calls (translatedPages w levels image base root) (Reports w) (callFrom w levels image base root) 0 replies passed
-    → Agreement (translatedPages w levels image base root) (Reports w) (callFrom w levels image base root) replies passed
+    → Agreement (translatedPages w levels image base root) (Reports w) (callFrom w levels image base root) replies passed)

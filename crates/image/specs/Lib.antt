@@ -9,5 +9,6 @@ pub mod Search
 pub mod Found
 pub mod List
 pub mod Agreement
+pub mod PageNumbers
 pub mod ListAgreement
 pub mod Unread

@@ -38,6 +38,13 @@ module _ (s : Space) where
       by-cases (decLt p (s .size)) (λ h. rw (lt-ltb p (s .size) h) (more h (some-searches k (next s (search s p)))))
       (λ n. rw (le-ltb p (s .size) (omega arith)) none)
 
+  pub at-most : (k p : ℕ) → length (answersFrom s k p) ≤ k
+  unfolding answersFrom
+  at-most zero p = omega arith
+  at-most (suc k) p =
+      by-cases (decLt p (s .size)) (λ h. rw (lt-ltb p (s .size) h) (omega (arith, at-most k (next s (search s p)))))
+      (λ n. rw (le-ltb p (s .size) (omega arith)) (omega arith))
+
   -- where it is not over, all of them are there
   pub all-there : (k p : ℕ) → leftAfter s k p < s .size → length (answersFrom s k p) ≡ k
   unfolding answersFrom leftAfter
