@@ -1,4 +1,5 @@
 /* Wuohtan: x86-64 addresses, pages, frames, ranges and page tables in memory images.
+ * docs/REFERENCE.md says what each call takes, answers and refuses, and in which order.
  *
  * One convention for every function. Numbers go in by value. The status tells the answer:
  *

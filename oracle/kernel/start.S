@@ -30,7 +30,7 @@ trap_off:
     popfq
     ret
 
-# Three numbers to a system call of Linux, and its answer.
+# Four numbers to a system call of Linux, and its answer.
     .globl system_call
 system_call:
     mov %rdi, %rax

@@ -1,4 +1,4 @@
--- What the calls on pages and frames answer. A page is an item of the virtual space, a frame one of the physical space; `z` is the size in bytes.
+-- What the calls on pages and frames answer. A page is an item of the virtual addresses, a frame one of the physical ones; `z` is the size in bytes.
 -- The sentences are those of document 01, "Frames" and "Pages".
 use Prim.Native.Nat.{ℕ, zero, suc, _-_, _*_, _/_, _%_}
 use mathlib.Core.Bool.{cond}
