@@ -2,7 +2,11 @@
 use crate::words::give_five;
 use crate::words::give_four;
 use crate::words::give_three;
+use image::END;
 use image::ListAnswer;
+use image::OUTSIDE;
+use image::RESERVED;
+use image::RUN;
 use image::Rights;
 use image::SearchAnswer;
 use image::StopReason;
@@ -14,6 +18,11 @@ ghost use Rattle.image.specs.Search.{reportOf};
 ghost use Rattle.image.specs.Translate.{rightsHeld, translationOf};
 ghost use Rattle.convention.specs.Convention.{left, leaves};
 ghost use Rattle.convention.specs.Images.{translationWords, searchWords, listed};
+
+// The kinds of a translation, beside `RESERVED` and `OUTSIDE`.
+const MAPPED: u64 = 0;
+
+const ABSENT: u64 = 1;
 
 // The rights as bits: 1 writable, 2 user, 4 no-execute.
 fn bits_of(rights: Rights) -> u64
@@ -30,11 +39,11 @@ pub fn give_translation(answer: TranslateAnswer, out: &mut [u64]) -> u8
 {
     match answer {
         TranslateAnswer::Mapped(address, size, rights) => {
-            give_four(0, address.0, size.bytes(), bits_of(rights), out)
+            give_four(MAPPED, address.0, size.bytes(), bits_of(rights), out)
         }
-        TranslateAnswer::Absent(level) => give_four(1, level, 0, 0, out),
-        TranslateAnswer::Reserved(level) => give_four(2, level, 0, 0, out),
-        TranslateAnswer::Outside(level) => give_four(3, level, 0, 0, out),
+        TranslateAnswer::Absent(level) => give_four(ABSENT, level, 0, 0, out),
+        TranslateAnswer::Reserved(level) => give_four(RESERVED, level, 0, 0, out),
+        TranslateAnswer::Outside(level) => give_four(OUTSIDE, level, 0, 0, out),
         TranslateAnswer::Refused(n) => n,
     }
 }
@@ -43,13 +52,13 @@ pub fn give_search(answer: SearchAnswer, out: &mut [u64]) -> u8
     ensures { λ r. ⌜ left r (now (out .exit)) ≡ leaves (searchWords (reportOf answer)) (now (out .entry)) ⌝ }
 {
     match answer {
-        SearchAnswer::End => give_five(0, 0, 0, 0, 0, out),
+        SearchAnswer::End => give_five(END, 0, 0, 0, 0, out),
         SearchAnswer::Stop(page, level, reason) => match reason {
-            StopReason::Reserved => give_five(2, page.start_address.0, level, 0, 0, out),
-            StopReason::Outside => give_five(3, page.start_address.0, level, 0, 0, out),
+            StopReason::Reserved => give_five(RESERVED, page.start_address.0, level, 0, 0, out),
+            StopReason::Outside => give_five(OUTSIDE, page.start_address.0, level, 0, 0, out),
         },
         SearchAnswer::Run(page, frame, count, rights) => give_five(
-            1,
+            RUN,
             page.start_address.0,
             frame.start_address.0,
             count,

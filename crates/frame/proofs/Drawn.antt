@@ -24,13 +24,13 @@ use Rattle.table.proofs.Sizes.{bounds}
 use Rattle.table.specs.declared.size.PageSize.{PageSize}
 use Rattle.addr.specs.Item.{firstRefusal, itemRefusal, itemsRefusal}
 use Rattle.frame.specs.Frame.{start, bytes}
-use Rattle.frame.specs.Range.{frameAt, frameAnswer, topFrame, itemOf, refusal, leavesMemory, frames, drawnBelow, drawnThrough, nthOf, nthBackOf, nthInclusiveOf, nthBackInclusiveOf, framesOf, framesInclusiveOf, accepted, acceptedInclusive, empty, emptyInclusive, len, lenInclusive, nthFrom, nthInclusiveFrom, nextFrom, nextInclusiveFrom}
+use Rattle.frame.specs.Range.{frameAt, frameAnswer, topFrame, itemIn, refusal, leavesMemory, frames, drawnBelow, drawnThrough, nthOf, nthBackOf, nthInclusiveOf, nthBackInclusiveOf, framesOf, framesInclusiveOf, accepted, acceptedInclusive, empty, emptyInclusive, len, lenInclusive, nthFrom, nthInclusiveFrom, nextFrom, nextInclusiveFrom}
 use Rattle.frame.specs.declared.frame.PhysFrame.{PhysFrame}
 use Rattle.frame.specs.declared.range.PhysFrameRange.{PhysFrameRange}
 use Rattle.frame.specs.declared.range_inclusive.PhysFrameRangeInclusive.{PhysFrameRangeInclusive}
 use Rattle.frame.proofs.Ranges as ranges
 
-answer-gives : (z : PageSize) (i : Option ℕ) → itemOf (frameAnswer z i) ≡ some i
+answer-gives : (z : PageSize) (i : Option ℕ) → itemIn (frameAnswer z i) ≡ some i
 unfolding frameAnswer
 answer-gives z none = refl
 answer-gives z (some a) = refl

@@ -46,10 +46,10 @@ frameAnswer z none = frame.None
 frameAnswer z (some a) = frame.Frame (frameAt z a)
 
 -- where the frame that an answer gives starts; none where it is a refusal
-abbrev pub itemOf : FrameAnswer → Option (Option ℕ)
-itemOf (frame.Refused k) = none
-itemOf frame.None = some none
-itemOf (frame.Frame f) = some (some (start f))
+abbrev pub itemIn : FrameAnswer → Option (Option ℕ)
+itemIn (frame.Refused k) = none
+itemIn frame.None = some none
+itemIn (frame.Frame f) = some (some (start f))
 
 -- the topmost frame of a size
 abbrev pub topFrame : ℕ → ℕ
@@ -65,7 +65,7 @@ leavesMemory under d = cond (under || (leb physSize (d .start) || leb physSize (
 
 -- frames, as draws take them
 abbrev pub frames : Kind PhysFrame FrameAnswer
-frames = record { placed = λ x. frameAt (x .size); answered = λ x. frameAnswer (x .size); refused = frame.Refused; item = itemOf }
+frames = record { placed = λ x. frameAt (x .size); answered = λ x. frameAnswer (x .size); refused = frame.Refused; item = itemIn }
 
 -- a draw of an exclusive range and of an inclusive one: the answer and the range left
 abbrev pub drawnBelow : FrameAnswer → PhysFrame → PhysFrame → FrameDraw

@@ -1,26 +1,28 @@
 -- Every list of run searches from page zero on an accepted image agrees with translating its 4 KiB pages singly, at any width and number of levels that fit.
-use Prim.Native.Nat.{ℕ, _+_, _-_, _*_, _/_, _%_, _^_, _<_}
+use Prim.Native.Nat.{ℕ, _+_, _*_, _%_, _^_, _<_}
 use mathlib.Core.Path.{_≡_, refl, sym, ap, _∙_, subst, fun-ext}
 use mathlib.Core.Bool.{true}
 use mathlib.Core.List.{List}
 use native.Mathlib.Omega.{arith}
 use native.Mathlib.Nat.{mod-lt, mod-eq-of-lt, mul-mod-left}
 use borrow.Author.Tests.{eq-eqb}
-use lib.Pow.{field, shl-shr, high, pow-pos, pow-add}
+use lib.Pow.{high, pow-pos, pow-add}
 use Rattle.answer.specs.Outcome.{Outcome, gives}
 use Rattle.laws.specs.Width.{IsWidth}
 use Rattle.laws.specs.Number.{start}
 use Rattle.laws.proofs.Width.{sign-low, sign-canonical}
 use Rattle.laws.proofs.Number.{low-multiple}
-use Rattle.mapping.specs.Pages.{PageState, Space}
+use Rattle.mapping.specs.Pages.{Space}
 use Rattle.mapping.specs.Pages as page
 use Rattle.mapping.specs.Search.{Answer, search}
 use Rattle.mapping.specs.Search as answer
-use Rattle.mapping.specs.Walk.{Walked, absent, broken, mapped, walk, allRights, stateOf}
+use Rattle.mapping.specs.Walk.{Walked, absent, broken, mapped, walk, allRights, stateOf, spaceOf}
 use Rattle.mapping.specs.Agreement.{Calls, Agreement}
 use Rattle.mapping.proofs.Found.{Found, no-more, at-stop, at-run, finds}
 use Rattle.mapping.proofs.Walk.{walk-low, spanned}
 use Rattle.mapping.proofs.Calls.{Searching, agreement}
+use Rattle.mapping.specs.PageNumbers.{PageNumbers}
+use Rattle.mapping.proofs.PageNumbers.{number-of, number-back, page-numbers}
 use Rattle.addr.specs.Item.{Item, itemRefusal}
 use Rattle.image.specs.Entry.{entry}
 use Rattle.image.specs.Memory.{tableAt}
@@ -67,13 +69,6 @@ one-answer w r (answer.run q g c h) (answer.run q′ g′ c′ h′) (u, d, (p, 
     cc
 
 module _ (w levels : ℕ) (v : IsWidth w) (e : w ≡ 9 * levels + 12) where
-  -- the page that starts where page n does
-  number-of : (n : ℕ) → pageNumber w (start w 4096 n) ≡ n % 2 ^ (9 * levels)
-  number-of n = ap (λ (x : ℕ). x / 4096) (sign-low w v (n * 4096)) ∙ rw e (field (n * 4096) (9 * levels) 12 ∙ ap (λ (x : ℕ). x % 2 ^ (9 * levels)) (shl-shr n 12))
-
-  pub number-back : (n : ℕ) → n < 2 ^ (9 * levels) → pageNumber w (start w 4096 n) ≡ n
-  number-back n h = number-of n ∙ mod-eq-of-lt h
-
   start-whole : (n : ℕ) → start w 4096 n % 4096 ≡ 0
   start-whole n =
       sym (low-multiple w 12 v (v .above) (start w 4096 n)) ∙ ap (λ (x : ℕ). x % 4096) (sign-low w v (n * 4096)) ∙ low-multiple w 12 v (v .above) (n * 4096) ∙ mul-mod-left n 4096
@@ -110,7 +105,7 @@ module _ (w levels : ℕ) (v : IsWidth w) (e : w ≡ 9 * levels + 12) where
     page-state n =
         let a = start w 4096 n in
         rw (ok, sign-canonical w v (n * 4096)) (state-translated a (walked (pageNumber w a)))
-        ∙ ap (λ (x : ℕ). stateOf (walked x)) (number-of n)
+        ∙ ap (λ (x : ℕ). stateOf (walked x)) (number-of w levels v e n)
         ∙ ap stateOf (walk-low (entry 52 true) (tableAt image base) levels levels t allRights n (omega arith))
 
     page-translated : PagesTranslated w levels image base root
@@ -119,7 +114,7 @@ module _ (w levels : ℕ) (v : IsWidth w) (e : w ≡ 9 * levels + 12) where
 
     -- the pages as translation answers them are the pages as the walk says
     pub same-pages : translatedPages w levels image base root ≡ pages
-    same-pages = ap (λ (f : ℕ → PageState). record { page = f; size = 2 ^ (9 * levels); high = 2 ^ (9 * levels - 1); span = λ l. 2 ^ (9 * (l - 1)) }) (fun-ext page-state)
+    same-pages = ap (spaceOf levels) (fun-ext page-state)
 
     pub passed : (n : ℕ) → searchRefusal w image base root (start w 4096 n) ≡ 0
     unfolding searchRefusal itemRefusal
@@ -127,7 +122,7 @@ module _ (w levels : ℕ) (v : IsWidth w) (e : w ≡ 9 * levels + 12) where
 
     pub call-answered : (n : ℕ) → n < pages .size → callFrom w levels image base root n ≡ gives (report w (search pages n))
     unfolding searching
-    call-answered n h = rw (passed n) (ap (λ (x : ℕ). gives (report w (search pages x))) (number-back n h))
+    call-answered n h = rw (passed n) (ap (λ (x : ℕ). gives (report w (search pages x))) (number-back w levels v e n h))
 
     pub calls-search : Searching pages (Reports w) (callFrom w levels image base root)
     calls-search =
@@ -152,6 +147,10 @@ runs-agree w levels v e image base root ok = (
   λ replies passed calls. agrees w levels v e image base root ok replies passed
       (subst (λ (s : Space). Calls s (Reports w) (callFrom w levels image base root) 0 replies passed) (same-pages w levels v e image base root ok) calls),
 )
+
+-- the pages that this is about are those of the addresses
+pub page-numbers-48 : (image : List ℕ) (base root : ℕ) → PageNumbers 48 4 (translatedPages 48 4 image base root)
+page-numbers-48 image base root = page-numbers 48 4 (widths Bits48) refl (translatedPages 48 4 image base root .page)
 
 pub runs-agree-48 : RunsAgree 48 4
 runs-agree-48 = runs-agree 48 4 (widths Bits48) refl

@@ -11,6 +11,5 @@ pub mod ListKept
 pub mod ListWords
 pub mod ListTurns
 pub mod Agreement
-pub mod PageNumbers
 pub mod ListAgreement
 pub mod Unread

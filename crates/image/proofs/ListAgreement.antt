@@ -20,6 +20,7 @@ use Rattle.mapping.specs.Search as searches
 use Rattle.mapping.specs.Agreement.{Calls}
 use Rattle.mapping.specs.Agreement as calls
 use Rattle.mapping.proofs.Some.{some-searches, at-most, all-there, join}
+use Rattle.mapping.proofs.PageNumbers.{number-back}
 use Rattle.addr.specs.Item.{Item}
 use Rattle.addr.specs.declared.width.Width.the-variants.{Bits48}
 use Rattle.addr.proofs.Widths.{widths}
@@ -29,7 +30,7 @@ use Rattle.image.specs.List.{Listed, Listing, allWords, reportsFrom, roo
 use Rattle.image.specs.Agreement.{Reports, callFrom}
 use Rattle.image.specs.ListAgreement.{Chain, one, more, Answered, ChainAgrees, ListsAgree}
 use Rattle.image.proofs.ListWords.{all-length, all-append}
-use Rattle.image.proofs.Agreement.{number-back, is-page, same-pages, passed, call-answered, calls-search, agrees}
+use Rattle.image.proofs.Agreement.{is-page, same-pages, passed, call-answered, calls-search, agrees}
 
 -- the page that a list leaves, by whether there is one
 left-some : (k n : ℕ) (x p : Item) → cond (ltb n k) (some x) none ≡ some p → (n < k) × (x ≡ p)

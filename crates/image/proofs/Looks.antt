@@ -11,9 +11,9 @@ use lib.Dec.{eqb, leb}
 use lib.Pow.{pow-pos, pow-add}
 use borrow.Author.Tests.{eqb-true, eqb-false, leb-true}
 use Rattle.mapping.specs.Pages.{Rights, reserved, outside}
-use Rattle.mapping.specs.Walk.{notPresent, reservedBit, maps, table, Walked, absent, broken, mapped, joined, spanPages, follow, step, walk}
+use Rattle.mapping.specs.Walk.{notPresent, reservedBit, maps, table, Walked, absent, broken, mapped, joined, spanPages, wordFor, follow, step, walk}
 use Rattle.image.specs.Entry.{set, rightsOf, large, reserves, firstFrame, tableAddress, entry}
-use Rattle.image.specs.Look.{wordFor, seen, lookIn}
+use Rattle.image.specs.Look.{seen, lookIn}
 use Rattle.image.specs.declared.look.Look.{Look}
 use Rattle.image.specs.declared.look.Look.the-variants as look
 

@@ -1,6 +1,6 @@
 -- That the list of run searches from page zero agrees with translating all 4 KiB pages singly: document 01, "Words of demand 3". The claims about a list are those of
 -- crates/mapping/specs/Agreement.antt; here are the pages and the calls that they are about, for the width `w` with that many levels.
-use Prim.Native.Nat.{ℕ, _-_, _*_, _/_, _^_, _<_}
+use Prim.Native.Nat.{ℕ, _*_, _/_, _<_}
 use mathlib.Core.Path.{_≡_}
 use mathlib.Core.Bool.{true}
 use mathlib.Core.List.{List}
@@ -12,6 +12,7 @@ use Rattle.mapping.specs.Pages as page
 use Rattle.mapping.specs.Search.{Answer}
 use Rattle.mapping.specs.Search as search
 use Rattle.mapping.specs.Agreement.{Calls, Agreement}
+use Rattle.mapping.specs.Walk.{spanPages, spaceOf}
 use Rattle.addr.specs.Item.{Item}
 use Rattle.image.specs.Translate.{Translated, mapped, absent, broken, imageRefusal, translation}
 use Rattle.image.specs.Search.{Report, end, stop, run, searching}
@@ -27,13 +28,7 @@ stateIn (refuses k) = page.absent
 
 -- the pages of an image as translation answers for their first addresses
 abbrev pub translatedPages : (w levels : ℕ) → List ℕ → (base root : ℕ) → Space
-translatedPages w levels image base root =
-    record {
-      page = λ n. stateIn (translation w levels image base root (start w 4096 n));
-      size = 2 ^ (9 * levels);
-      high = 2 ^ (9 * levels - 1);
-      span = λ l. 2 ^ (9 * (l - 1));
-    }
+translatedPages w levels image base root = spaceOf levels (λ n. stateIn (translation w levels image base root (start w 4096 n)))
 
 -- the 4 KiB page with the number `n`: "t canonical, low48(t) that sum", n pages from 0
 pub record IsPage (w n : ℕ) (i : Item) : Type 0 where
@@ -61,7 +56,7 @@ callFrom w levels image base root n = searching w levels image base root (start 
 
 -- translation gives an answer for the first address of every page
 abbrev pub PagesTranslated : (w levels : ℕ) → List ℕ → (base root : ℕ) → Type 0
-PagesTranslated w levels image base root = (n : ℕ) → n < 2 ^ (9 * levels) → (t : Translated) × (translation w levels image base root (start w 4096 n) ≡ gives t)
+PagesTranslated w levels image base root = (n : ℕ) → n < spanPages levels → (t : Translated) × (translation w levels image base root (start w 4096 n) ≡ gives t)
 
 -- "All this is one claim about the whole list of answers, whatever its length": of every list of calls from page zero on an image, base and root that are accepted
 abbrev pub RunsAgree : (w levels : ℕ) → Type 0

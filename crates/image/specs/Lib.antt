@@ -9,6 +9,5 @@ pub mod Search
 pub mod Found
 pub mod List
 pub mod Agreement
-pub mod PageNumbers
 pub mod ListAgreement
 pub mod Unread

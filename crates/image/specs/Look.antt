@@ -1,17 +1,12 @@
 -- What the code reads for a page in one table, as one answer by cases.
-use Prim.Native.Nat.{ℕ, _+_, _/_, _%_}
+use Prim.Native.Nat.{ℕ, _+_}
 use mathlib.Core.Bool.{true}
 use mathlib.Core.List.{List}
 use mathlib.Core.Option.{Option, none, some}
-use lib.ListN.{getD}
-use Rattle.mapping.specs.Walk.{Entry, notPresent, reservedBit, maps, table, spanPages}
+use Rattle.mapping.specs.Walk.{Entry, notPresent, reservedBit, maps, table, wordFor}
 use Rattle.image.specs.Entry.{entry}
 use Rattle.image.specs.declared.look.Look.{Look}
 use Rattle.image.specs.declared.look.Look.the-variants as look
-
--- the word for page `x` in a table of level `n` + 1: its index is nine bits of the page's number
-abbrev pub wordFor : List ℕ → ℕ → ℕ → ℕ
-wordFor t n x = getD t (x / spanPages n % 512) 0
 
 -- an entry with its own word, which has its rights
 abbrev pub seen : ℕ → Entry → Look

@@ -7,7 +7,7 @@ use Rattle.laws.specs.Number.{start}
 use Rattle.mapping.specs.Pages.{Rights, Reason, reserved, outside, Space}
 use Rattle.mapping.specs.Search.{Answer, search}
 use Rattle.mapping.specs.Search as found
-use Rattle.mapping.specs.Walk.{space}
+use Rattle.mapping.specs.Walk.{walkedPages}
 use Rattle.addr.specs.Address.{virt}
 use Rattle.addr.specs.Item.{Item, item, itemRefusal, firstRefusal}
 use Rattle.frame.specs.Frame as frame
@@ -52,7 +52,7 @@ answerWords = 5
 
 -- the pages of an image, by the words of its root table
 abbrev pub imagePages : (levels : ℕ) → List ℕ → (base : ℕ) → List ℕ → Space
-imagePages levels image base t = space (entry 52 true) (tableAt image base) levels t
+imagePages levels image base t = walkedPages (entry 52 true) (tableAt image base) levels t
 
 -- "Both calls: base 2, 3; root 2, 3 ..; then 14 ..; only then .. the 4 KiB page (1, 3).": the number that refuses a search, 0 for none
 unfoldable pub searchRefusal : ℕ → List ℕ → (base root a : ℕ) → ℕ

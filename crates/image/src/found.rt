@@ -16,12 +16,14 @@ pub(crate) const PAGES: u64 = 0x10_0000_0000;
 
 const FIRST_HIGH: u64 = 0x8_0000_0000;
 
-// The kinds of answers; what is none of these is a stop outside the image.
+// The kinds of answers: nothing follows, a run, a stop at an entry with a reserved bit set, a stop at one whose table is not in the image.
 pub const END: u64 = 0;
 
 pub const RUN: u64 = 1;
 
 pub const RESERVED: u64 = 2;
+
+pub const OUTSIDE: u64 = 3;
 
 // An answer: its kind, its page, the first frame of a run or the level of a stop, a run's count, and its rights as three bits.
 pub(crate) struct Found {

@@ -14,6 +14,7 @@ mod translation;
 mod walk;
 
 pub use found::END;
+pub use found::OUTSIDE;
 pub use found::RESERVED;
 pub use found::RUN;
 pub use list_searches::ANSWER_WORDS;

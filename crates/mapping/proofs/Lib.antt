@@ -8,3 +8,4 @@ pub mod Walk
 pub mod Spans
 pub mod Example
 pub mod Some
+pub mod PageNumbers

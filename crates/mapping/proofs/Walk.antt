@@ -8,11 +8,11 @@ use lib.Pow.{pow-pos, pow-mono, pow-add, shr-shr, field, mod-mod-pow}
 use lib.ListN.{getD}
 use Rattle.mapping.specs.Pages.{Rights, Reason, reserved, outside, Spanned}
 use Rattle.mapping.specs.Pages as page
-use Rattle.mapping.specs.Walk.{Entry, notPresent, reservedBit, maps, table, Walked, absent, broken, mapped, joined, allRights, spanPages, follow, step, walk, stateOf, space}
+use Rattle.mapping.specs.Walk.{Entry, notPresent, reservedBit, maps, table, Walked, absent, broken, mapped, joined, allRights, spanPages, entryIndex, wordFor, follow, step, walk, stateOf, walkedPages}
 
 -- the entry of level n + 1 that page x is under, in the table t
 abbrev pub entryOf : (entry : ℕ → ℕ → Entry) (n : ℕ) (t : List ℕ) (x : ℕ) → Entry
-entryOf entry n t x = entry (n + 1) (getD t (x / spanPages n % 512) 0)
+entryOf entry n t x = entry (n + 1) (wordFor t n x)
 
 -- pages under one entry are under one entry at each level above
 same-above : (l n x y : ℕ) → l ≤ n → y / spanPages l ≡ x / spanPages l → y / spanPages n ≡ x / spanPages n
@@ -31,6 +31,10 @@ state-broken : (a : Walked) (l : ℕ) (c : Reason) → stateOf a ≡ page.broken
 state-broken (absent k) l c e = cc
 state-broken (broken k d) l c e = cc
 state-broken (mapped g k h) l c e = cc
+
+-- a smaller power of two divides a larger one
+whole : (i j : ℕ) → i ≤ j → (k : ℕ) × (2 ^ j ≡ k * 2 ^ i)
+whole i j h = (2 ^ (j - i), ap (λ (k : ℕ). 2 ^ k) (omega arith) ∙ pow-add 2 (j - i) i)
 
 module _ (entry : ℕ → ℕ → Entry) (memory : ℕ → Option (List ℕ)) where
   -- a page y under the entry of level n + 1 that page x is under
@@ -66,9 +70,9 @@ module _ (entry : ℕ → ℕ → Entry) (memory : ℕ → Option (List ℕ)) wh
   walk-low m zero t r x h = refl
   walk-low m (suc n) t r x h =
       ap (λ (i : ℕ). step memory (λ t′ r′. walk entry memory n t′ r′ (x % spanPages m)) n r (x % spanPages m) (entry (n + 1) (getD t i 0))) index
-      ∙ go (entry (n + 1) (getD t (x / spanPages n % 512) 0)) (λ t′ r′. walk-low m n t′ r′ x (omega arith))
+      ∙ go (entryOf entry n t x) (λ t′ r′. walk-low m n t′ r′ x (omega arith))
     where
-      index : x % spanPages m / spanPages n % 512 ≡ x / spanPages n % 512
+      index : entryIndex n (x % spanPages m) ≡ entryIndex n x
       index =
           let e : 9 * m ≡ 9 * (m - n - 1) + 9 + 9 * n = omega arith in
           rw e (ap (λ (k : ℕ). k % 2 ^ 9) (field x (9 * (m - n - 1) + 9) (9 * n)) ∙ mod-mod-pow (x / 2 ^ (9 * n)) (9 * (m - n - 1)) 9)
@@ -123,13 +127,12 @@ module _ (entry : ℕ → ℕ → Entry) (memory : ℕ → Option (List ℕ)) wh
       go (maps g h) v ih = absurd (mapped-broken (walk-mapped n t r x x refl g h v) e)
       go (table a h) v ih = down a h v (memory a) refl ih
 
-  pub spanned : (levels : ℕ) (t : List ℕ) → Spanned (space entry memory levels t)
+  pub spanned : (levels : ℕ) (t : List ℕ) → Spanned (walkedPages entry memory levels t)
   spanned n t =
       record {
         halves = pow-mono (omega arith);
-        some = λ x l c b e. pow-pos (9 * (l - 1));
-        divides = λ x l c b e.
-            (2 ^ (9 * n - 9 * (l - 1)), ap (λ (k : ℕ). 2 ^ k) (omega (arith, span x l c e)) ∙ pow-add 2 (9 * n - 9 * (l - 1)) (9 * (l - 1)));
+        some = λ x l c b e. pow-pos _;
+        divides = λ x l c b e. whole _ _ (omega (arith, span x l c e));
         alike = λ x y l c b e d. ap stateOf (span x l c e .alike y d);
       }
     where

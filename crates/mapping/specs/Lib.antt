@@ -2,3 +2,4 @@ pub mod Pages
 pub mod Search
 pub mod Agreement
 pub mod Walk
+pub mod PageNumbers

@@ -34,6 +34,14 @@ allRights = rights true true false
 abbrev pub spanPages : ℕ → ℕ
 spanPages n = 2 ^ (9 * n)
 
+-- "The index at a level is nine bits": that of page `x` in a table of level `n` + 1
+abbrev pub entryIndex : (n x : ℕ) → ℕ
+entryIndex n x = x / spanPages n % 512
+
+-- the word for it
+abbrev pub wordFor : List ℕ → (n x : ℕ) → ℕ
+wordFor t n x = getD t (entryIndex n x) 0
+
 -- "next table wholly in the image": what the table says, or outside, with the level `l` of the entry that names it
 abbrev pub follow : Option (List ℕ) → (l : ℕ) → (List ℕ → Walked) → Walked
 follow none l f = broken l outside
@@ -46,10 +54,10 @@ step memory below n r x reservedBit = broken (n + 1) reserved
 step memory below n r x (maps g h) = mapped (g + x % spanPages n) (n + 1) (joined r h)
 step memory below n r x (table a h) = follow (memory a) (n + 1) (λ t. below t (joined r h))
 
--- "Each lower table is searched by the same rule, one level down.": page `x` by the table `t` of a level. An index is nine bits of the page's number
+-- "Each lower table is searched by the same rule, one level down.": page `x` by the table `t` of a level
 unfoldable pub walk : (entry : ℕ → ℕ → Entry) (memory : ℕ → Option (List ℕ)) → (level : ℕ) → List ℕ → Rights → (x : ℕ) → Walked
 walk entry memory zero t r x = absent 0
-walk entry memory (suc n) t r x = step memory (λ t′ r′. walk entry memory n t′ r′ x) n r x (entry (n + 1) (getD t (x / spanPages n % 512) 0))
+walk entry memory (suc n) t r x = step memory (λ t′ r′. walk entry memory n t′ r′ x) n r x (entry (n + 1) (wordFor t n x))
 
 -- "Words of demand 3. A 4 KiB page is mapped, absent, reserved or outside as translate answers"
 abbrev pub stateOf : Walked → PageState
@@ -57,12 +65,10 @@ stateOf (absent l) = page.absent
 stateOf (broken l r) = page.broken l r
 stateOf (mapped g l h) = page.mapped g h
 
--- the pages below the root table `t`, with that many levels: 2^36 with four
-abbrev pub space : (entry : ℕ → ℕ → Entry) (memory : ℕ → Option (List ℕ)) → (levels : ℕ) → List ℕ → Space
-space entry memory levels t =
-    record {
-      page = λ x. stateOf (walk entry memory levels t allRights x);
-      size = 2 ^ (9 * levels);
-      high = 2 ^ (9 * levels - 1);
-      span = λ l. spanPages (l - 1);
-    }
+-- the pages that so many levels reach, 2^36 with four, each in its state; `PageNumbers` says that they are those of the addresses
+abbrev pub spaceOf : (levels : ℕ) → (ℕ → PageState) → Space
+spaceOf levels page = record { page = page; size = spanPages levels; high = 2 ^ (9 * levels - 1); span = λ l. spanPages (l - 1) }
+
+-- those below the root table `t`
+abbrev pub walkedPages : (entry : ℕ → ℕ → Entry) (memory : ℕ → Option (List ℕ)) → (levels : ℕ) → List ℕ → Space
+walkedPages entry memory levels t = spaceOf levels (λ x. stateOf (walk entry memory levels t allRights x))

@@ -33,13 +33,13 @@ use Rattle.addr.specs.Item.{firstRefusal, itemRefusal, itemsRefusal}
 use Rattle.addr.specs.declared.width.Width.{Width}
 use Rattle.addr.proofs.Widths.{widths}
 use Rattle.page.specs.Page.{start, bytes}
-use Rattle.page.specs.Range.{pageAt, pageAnswer, itemOf, topPage, refusal, pages, drawnBelow, drawnThrough, nthOf, nthBackOf, nthInclusiveOf, nthBackInclusiveOf, pagesOf, pagesInclusiveOf, accepted, acceptedInclusive, empty, emptyInclusive, len, lenInclusive, nthFrom, nthInclusiveFrom, nextFrom, nextInclusiveFrom}
+use Rattle.page.specs.Range.{pageAt, pageAnswer, itemIn, topPage, refusal, pages, drawnBelow, drawnThrough, nthOf, nthBackOf, nthInclusiveOf, nthBackInclusiveOf, pagesOf, pagesInclusiveOf, accepted, acceptedInclusive, empty, emptyInclusive, len, lenInclusive, nthFrom, nthInclusiveFrom, nextFrom, nextInclusiveFrom}
 use Rattle.page.specs.declared.page.Page.{Page}
 use Rattle.page.specs.declared.range.PageRange.{PageRange}
 use Rattle.page.specs.declared.range_inclusive.PageRangeInclusive.{PageRangeInclusive}
 use Rattle.page.proofs.Ranges as ranges
 
-answer-gives : (z : PageSize) (i : Option ℕ) → itemOf (pageAnswer z i) ≡ some i
+answer-gives : (z : PageSize) (i : Option ℕ) → itemIn (pageAnswer z i) ≡ some i
 unfolding pageAnswer
 answer-gives z none = refl
 answer-gives z (some a) = refl

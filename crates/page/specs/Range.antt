@@ -50,10 +50,10 @@ pageAnswer z none = page.None
 pageAnswer z (some a) = page.Page (pageAt z a)
 
 -- where the page that an answer gives starts; none where it is a refusal
-abbrev pub itemOf : PageAnswer → Option (Option ℕ)
-itemOf (page.Refused k) = none
-itemOf page.None = some none
-itemOf (page.Page p) = some (some (start p))
+abbrev pub itemIn : PageAnswer → Option (Option ℕ)
+itemIn (page.Refused k) = none
+itemIn page.None = some none
+itemIn (page.Page p) = some (some (start p))
 
 -- the topmost page of a size
 abbrev pub topPage : ℕ → ℕ
@@ -65,7 +65,7 @@ refusal w x y = itemsRefusal (virt w) (start x) (bytes x) (start y) (bytes y)
 
 -- pages, as draws take them
 abbrev pub pages : Kind Page PageAnswer
-pages = record { placed = λ x. pageAt (x .size); answered = λ x. pageAnswer (x .size); refused = page.Refused; item = itemOf }
+pages = record { placed = λ x. pageAt (x .size); answered = λ x. pageAnswer (x .size); refused = page.Refused; item = itemIn }
 
 -- a draw of an exclusive range and of an inclusive one: the answer and the range left
 abbrev pub drawnBelow : PageAnswer → Page → Page → PageDraw

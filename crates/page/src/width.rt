@@ -35,6 +35,27 @@ pub(crate) fn page_refusal(width: Width, page: Page) -> u8
     if size.rest(a) == 0 { 0 } else { NOT_ALIGNED }
 }
 
+// The number that refuses two pages handed in: that of the first, of the second, then 7; 0 for none.
+pub(crate) fn pages_refusal(width: Width, page: Page, other: Page) -> u8
+    ensures { λ r. ⌜ r ≡ itemsRefusal (virt (widthOf width)) (start page) (bytes page) (start other) (bytes other) ⌝ }
+{
+    let refused = page_refusal(width, page);
+    if refused != 0 {
+        return refused;
+    }
+    let other_refused = page_refusal(width, other);
+    if other_refused != 0 {
+        return other_refused;
+    }
+    let size = page.size;
+    let other_size = other.size;
+    if size.bytes() == other_size.bytes() {
+        0
+    } else {
+        SIZES_DIFFER
+    }
+}
+
 pub(crate) fn from_start_address(width: Width, address: VirtAddr, size: PageSize) -> PageAnswer
     ensures { λ r. ⌜ pageOf r ≡ fromStart (virt (widthOf width)) (address .0) (bytesOf size) ⌝ }
 {
@@ -154,27 +175,6 @@ pub(crate) fn sub(width: Width, page: Page, count: u64) -> PageAnswer
         start_address: VirtAddr(difference),
         size,
     })
-}
-
-// The number that refuses two pages handed in: that of the first, of the second, then 7; 0 for none.
-pub(crate) fn pages_refusal(width: Width, page: Page, other: Page) -> u8
-    ensures { λ r. ⌜ r ≡ itemsRefusal (virt (widthOf width)) (start page) (bytes page) (start other) (bytes other) ⌝ }
-{
-    let refused = page_refusal(width, page);
-    if refused != 0 {
-        return refused;
-    }
-    let other_refused = page_refusal(width, other);
-    if other_refused != 0 {
-        return other_refused;
-    }
-    let size = page.size;
-    let other_size = other.size;
-    if size.bytes() == other_size.bytes() {
-        0
-    } else {
-        SIZES_DIFFER
-    }
 }
 
 // How many pages lie between, by their numbers, so with the gap; 7 if the sizes differ, 5 below zero.

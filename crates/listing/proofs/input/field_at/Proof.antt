@@ -36,7 +36,7 @@ cast-byte : tie.Need-cast-byte Inv-loop μ-loop
 cast-byte c = omega (arith, small c)
 
 mul-n : tie.Need-mul-n Inv-loop μ-loop
-mul-n c = omega (arith, left c)
+mul-n c = omega (arith, small c, left c)
 
 add-n : tie.Need-add-n Inv-loop μ-loop
 add-n c = omega (arith, small c, left c)

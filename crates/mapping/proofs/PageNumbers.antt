@@ -1,19 +1,17 @@
--- The numbers of pages have the addresses' indices, and their spans and halves are those of the addresses.
+-- The numbers of pages are those of the addresses, with their indices, spans and halves.
 use Prim.Native.Nat.{ℕ, zero, suc, _+_, _-_, _*_, _/_, _%_, _^_, _≤_, _<_}
-use mathlib.Core.Path.{_≡_, refl, sym, ap, _∙_}
+use mathlib.Core.Path.{_≡_, sym, ap, _∙_}
 use native.Mathlib.Omega.{arith}
-use native.Mathlib.Nat.{div-eq-of-lt, mod-eq-of-lt}
-use lib.Pow.{shr-shr, shl-lt, split, pow-add}
+use native.Mathlib.Nat.{div-eq-of-lt, mod-lt, mod-eq-of-lt}
+use lib.Pow.{shr-shr, shl-shr, shl-lt, field, split, pow-pos, pow-add}
 use Rattle.laws.specs.Width.{IsWidth, half, low}
-use Rattle.laws.specs.Number.{start}
+use Rattle.laws.specs.Number.{number, start}
 use Rattle.laws.specs.Index.{index}
-use Rattle.laws.proofs.Width.{sizes, sign-of-low, sign-set}
+use Rattle.laws.proofs.Width.{sizes, sign-low, sign-of-low, sign-set}
 use Rattle.laws.proofs.Index.{index-low}
-use Rattle.image.specs.Translate.{pageNumber}
-use Rattle.image.specs.PageNumbers.{SameIndices, PageNumbers}
-use Rattle.image.proofs.Agreement.{number-back}
-use Rattle.addr.specs.declared.width.Width.the-variants.{Bits48}
-use Rattle.addr.proofs.Widths.{widths}
+use Rattle.mapping.specs.Pages.{PageState}
+use Rattle.mapping.specs.Walk.{entryIndex, spaceOf}
+use Rattle.mapping.specs.PageNumbers.{SameIndices, PageNumbers}
 
 -- the quotient by a larger span
 wider : (x l k : ℕ) → 1 ≤ l → l ≤ k → x / 2 ^ (9 * (k - 1)) ≡ x / 2 ^ (9 * (l - 1)) / 2 ^ (9 * (k - l))
@@ -22,13 +20,23 @@ wider x l k p h =
     rw q (sym (shr-shr x (9 * (l - 1)) (9 * (k - l))))
 
 module _ (w levels : ℕ) (v : IsWidth w) (e : w ≡ 9 * levels + 12) where
-  index-of : (a l : ℕ) → 1 ≤ l → l ≤ levels → pageNumber w a / 2 ^ (9 * (l - 1)) % 512 ≡ index l a
+  -- the page that starts where page n does
+  pub number-of : (n : ℕ) → number w 4096 (start w 4096 n) ≡ n % 2 ^ (9 * levels)
+  number-of n = ap (λ (x : ℕ). x / 4096) (sign-low w v (n * 4096)) ∙ rw e (field (n * 4096) (9 * levels) 12 ∙ ap (λ (x : ℕ). x % 2 ^ (9 * levels)) (shl-shr n 12))
+
+  pub number-back : (n : ℕ) → n < 2 ^ (9 * levels) → number w 4096 (start w 4096 n) ≡ n
+  number-back n h = number-of n ∙ mod-eq-of-lt h
+
+  number-inside : (a : ℕ) → number w 4096 a < 2 ^ (9 * levels)
+  number-inside a = rw (e, field a (9 * levels) 12) (mod-lt (a / 4096) (pow-pos (9 * levels)))
+
+  index-of : (a l : ℕ) → 1 ≤ l → l ≤ levels → entryIndex (l - 1) (number w 4096 a) ≡ index l a
   index-of a l p h =
       let z : w ≡ 12 + 9 * levels = omega arith in
       ap (λ (x : ℕ). x % 512) (shr-shr (low w a) 12 (9 * (l - 1))) ∙ rw z (index-low a l levels p h)
 
   page-index : (x l : ℕ) → x < 2 ^ (9 * levels) → 1 ≤ l → l ≤ levels → index l (start w 4096 x) ≡ x / 2 ^ (9 * (l - 1)) % 512
-  page-index x l i p h = sym (index-of (start w 4096 x) l p h) ∙ ap (λ (n : ℕ). n / 2 ^ (9 * (l - 1)) % 512) (number-back w levels v e x i)
+  page-index x l i p h = sym (index-of (start w 4096 x) l p h) ∙ ap (λ (n : ℕ). n / 2 ^ (9 * (l - 1)) % 512) (number-back x i)
 
   module _ (x y : ℕ) (i : x < 2 ^ (9 * levels)) (j : y < 2 ^ (9 * levels)) where
     same-indices : (l : ℕ) → 1 ≤ l → x / 2 ^ (9 * (l - 1)) ≡ y / 2 ^ (9 * (l - 1)) → SameIndices w levels l x y
@@ -72,14 +80,13 @@ module _ (w levels : ℕ) (v : IsWidth w) (e : w ≡ 9 * levels + 12) where
       omega (arith, k, l, t, s)
 
 -- at every width and number of levels that fit each other
-pub page-numbers : (w levels : ℕ) → IsWidth w → w ≡ 9 * levels + 12 → PageNumbers w levels
-page-numbers w levels v e =
+pub page-numbers : (w levels : ℕ) → IsWidth w → w ≡ 9 * levels + 12 → (page : ℕ → PageState) → PageNumbers w levels (spaceOf levels page)
+page-numbers w levels v e page =
     record {
+      inside = number-inside w levels v e;
+      back = number-back w levels v e;
       indices = index-of w levels v e;
       spans = λ x y l i j p h. (same-indices w levels v e x y i j l p, same-span w levels v e x y i j (levels + 1 - l) l (omega arith) p);
       low-half = low-half w levels v e;
       high-half = high-half w levels v e;
     }
-
-pub page-numbers-48 : PageNumbers 48 4
-page-numbers-48 = page-numbers 48 4 (widths Bits48) refl
