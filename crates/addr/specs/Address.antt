@@ -24,6 +24,10 @@ virt w = record { holds = canonical w; argument = notCanonical; result = resultN
 abbrev pub phys : ℕ → Addresses
 phys w = record { holds = λ a. ltb a (2 ^ w); argument = notPhysical; result = resultNotPhysical }
 
+-- how many physical addresses there are
+abbrev pub physSize : ℕ
+physSize = 2 ^ 52
+
 -- "An argument that is no address .. is refused first, in argument order"; then what follows
 abbrev pub given : {A : Type 0} → Addresses → ℕ → Outcome A → Outcome A
 given s a o = unless (s .argument) (s .holds a) o

@@ -9,10 +9,10 @@ use answer::OVERFLOW;
 use answer::RESULT_NOT_PHYSICAL;
 use answer::U64Answer;
 ghost use mathlib.Core.Path.{_≡_};
-ghost use Prim.Native.Nat.{_%_, _^_};
+ghost use Prim.Native.Nat.{_%_};
 ghost use Rattle.answer.specs.Answers.{u64Of, boolOf};
 ghost use Rattle.addr.specs.Answers.{physOf};
-ghost use Rattle.addr.specs.Address.{phys, address, isNull, isAligned, plus, minus, distance, alignDownPhys, alignUpPhys};
+ghost use Rattle.addr.specs.Address.{phys, physSize, address, isNull, isAligned, plus, minus, distance, alignDownPhys, alignUpPhys};
 
 // How many physical addresses there are: 2^52.
 pub const PHYS_SIZE: u64 = 0x10_0000_0000_0000;
@@ -45,7 +45,7 @@ impl PhysAddr {
 
     // The address with the number's low 52 bits.
     pub fn new_truncate(addr: u64) -> PhysAddr
-        ensures { λ r. ⌜ r .0 ≡ addr % 2 ^ 52 ⌝ }
+        ensures { λ r. ⌜ r .0 ≡ addr % physSize ⌝ }
     {
         PhysAddr(addr % PHYS_SIZE)
     }

@@ -20,9 +20,9 @@ ghost use Rattle.convention.specs.Convention.{left, leaves};
 ghost use Rattle.convention.specs.Images.{translationWords, searchWords, listed};
 
 // The kinds of a translation, beside `RESERVED` and `OUTSIDE`.
-const MAPPED: u64 = 0;
+const KIND_MAPPED: u64 = 0;
 
-const ABSENT: u64 = 1;
+const KIND_ABSENT: u64 = 1;
 
 // The rights as bits: 1 writable, 2 user, 4 no-execute.
 fn bits_of(rights: Rights) -> u64
@@ -39,9 +39,9 @@ pub fn give_translation(answer: TranslateAnswer, out: &mut [u64]) -> u8
 {
     match answer {
         TranslateAnswer::Mapped(address, size, rights) => {
-            give_four(MAPPED, address.0, size.bytes(), bits_of(rights), out)
+            give_four(KIND_MAPPED, address.0, size.bytes(), bits_of(rights), out)
         }
-        TranslateAnswer::Absent(level) => give_four(ABSENT, level, 0, 0, out),
+        TranslateAnswer::Absent(level) => give_four(KIND_ABSENT, level, 0, 0, out),
         TranslateAnswer::Reserved(level) => give_four(RESERVED, level, 0, 0, out),
         TranslateAnswer::Outside(level) => give_four(OUTSIDE, level, 0, 0, out),
         TranslateAnswer::Refused(n) => n,

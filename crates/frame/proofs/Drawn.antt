@@ -1,5 +1,5 @@
 -- Frames drawn one by one: each of them once and in order, from either end or both, where no draw is refused; and a draw with n as n + 1 draws with n = 0.
-use Prim.Native.Nat.{ℕ, zero, suc, _-_, _%_, _^_, _≤_, _<_}
+use Prim.Native.Nat.{ℕ, zero, suc, _%_, _^_, _≤_, _<_}
 use mathlib.Core.Path.{_≡_, refl}
 use mathlib.Core.Bool.{Bool, false}
 use mathlib.Core.List.{reverse}
@@ -179,26 +179,26 @@ frames-inclusive-one-by-one = one-by-one given-inclusive
 
 -- each frame once
 module _ (r : PhysFrameRange) (d : Drawn PhysFrameRange) where
-  front-drawn : nextFrom front r ≡ some d → (d .item ≡ getElem? (framesOf r) 0) × (framesOf (d .left) ≡ drop 1 (framesOf r))
+  front-drawn : nextFrom front r ≡ some d → (d .item ≡ getElem? (framesOf r) 0) × (framesOf (d .range) ≡ drop 1 (framesOf r))
   front-drawn h =
       let q = settled-is (given-range front) 0 r d h in
       let a = ranges.accepted (r .start) (r .end) (given-range front .free 0 r d h) in
       rw q (refl, front-below-left (framesOf r) (start (r .start)) (start (r .end)) (bytes (r .start)) 0 (a .some))
 
-  back-drawn : nextFrom back r ≡ some d → (d .item ≡ getElem? (reverse (framesOf r)) 0) × (reverse (framesOf (d .left)) ≡ drop 1 (reverse (framesOf r)))
+  back-drawn : nextFrom back r ≡ some d → (d .item ≡ getElem? (reverse (framesOf r)) 0) × (reverse (framesOf (d .range)) ≡ drop 1 (reverse (framesOf r)))
   back-drawn h =
       let q = settled-is (given-range back) 0 r d h in
       let a = ranges.accepted (r .start) (r .end) (given-range back .free 0 r d h) in
       rw q (refl, back-below-left (framesOf r) (start (r .start)) (start (r .end)) (bytes (r .start)) 0 (a .some))
 
 module _ (r : PhysFrameRangeInclusive) (d : Drawn PhysFrameRangeInclusive) where
-  front-inclusive-drawn : nextInclusiveFrom front r ≡ some d → (d .item ≡ getElem? (framesInclusiveOf r) 0) × (framesInclusiveOf (d .left) ≡ drop 1 (framesInclusiveOf r))
+  front-inclusive-drawn : nextInclusiveFrom front r ≡ some d → (d .item ≡ getElem? (framesInclusiveOf r) 0) × (framesInclusiveOf (d .range) ≡ drop 1 (framesInclusiveOf r))
   front-inclusive-drawn h =
       let q = settled-is (given-inclusive front) 0 r d h in
       let a = ranges.accepted (r .start) (r .end) (given-inclusive front .free 0 r d h) in
       rw q (refl, front-through-left (framesInclusiveOf r) (start (r .start)) (start (r .end)) (bytes (r .start)) (topFrame (bytes (r .start))) 0 (a .some) (omega arith) (omega arith) (omega arith))
 
-  back-inclusive-drawn : nextInclusiveFrom back r ≡ some d → (d .item ≡ getElem? (reverse (framesInclusiveOf r)) 0) × (reverse (framesInclusiveOf (d .left)) ≡ drop 1 (reverse (framesInclusiveOf r)))
+  back-inclusive-drawn : nextInclusiveFrom back r ≡ some d → (d .item ≡ getElem? (reverse (framesInclusiveOf r)) 0) × (reverse (framesInclusiveOf (d .range)) ≡ drop 1 (reverse (framesInclusiveOf r)))
   back-inclusive-drawn h =
       let q = settled-is (given-inclusive back) 0 r d h in
       let a = ranges.accepted (r .start) (r .end) (given-inclusive back .free 0 r d h) in

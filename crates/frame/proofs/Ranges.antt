@@ -1,5 +1,5 @@
 -- Draws of frames by draws on their numbers: a refused range is left as it was, and an accepted one meets no refusal 11.
-use Prim.Native.Nat.{ℕ, _+_, _-_, _%_, _^_, _≤_, _<_}
+use Prim.Native.Nat.{ℕ, _+_, _%_, _^_, _≤_, _<_}
 use mathlib.Core.Path.{_≡_, refl}
 use mathlib.Core.Bool.{Bool, false}
 use native.Mathlib.Omega.{arith}

@@ -1,10 +1,10 @@
 -- What the calls on frames answer, beside what they share with pages. The sentences are those of document 01, "Frames".
-use Prim.Native.Nat.{ℕ, _*_, _/_, _^_}
+use Prim.Native.Nat.{ℕ, _*_, _/_}
 use lib.Dec.{ltb}
 use Rattle.answer.specs.Outcome.{Outcome, gives, none, refuses, unless}
 use Rattle.answer.specs.Refusal.{pfnTooLarge}
 use Rattle.table.specs.Level.{bytesOf}
-use Rattle.addr.specs.Address.{phys}
+use Rattle.addr.specs.Address.{phys, physSize}
 use Rattle.addr.specs.Item.{Item, item, givenItem}
 use Rattle.frame.specs.declared.frame.PhysFrame as frame
 use Rattle.frame.specs.declared.frame.FrameAnswer.{FrameAnswer}
@@ -22,10 +22,6 @@ abbrev pub frameOf : FrameAnswer → Outcome Item
 frameOf (answer.Frame f) = gives (item (start f) (bytes f))
 frameOf answer.None = none
 frameOf (answer.Refused k) = refuses k
-
--- how many physical addresses there are
-abbrev pub physSize : ℕ
-physSize = 2 ^ 52
 
 -- "`try_from_pfn`: 12 exactly if number × size ≥ 2^52"
 abbrev pub fromPfn : ℕ → ℕ → Outcome Item

@@ -18,10 +18,10 @@ use Rattle.mapping.specs.Search.{Answer, search}
 use Rattle.mapping.specs.Search as answer
 use Rattle.mapping.specs.Walk.{Walked, absent, broken, mapped, walk, allRights, stateOf, spaceOf}
 use Rattle.mapping.specs.Agreement.{Calls, Agreement}
+use Rattle.mapping.specs.PageNumbers.{PageNumbers}
 use Rattle.mapping.proofs.Found.{Found, no-more, at-stop, at-run, finds}
 use Rattle.mapping.proofs.Walk.{walk-low, spanned}
 use Rattle.mapping.proofs.Calls.{Searching, agreement}
-use Rattle.mapping.specs.PageNumbers.{PageNumbers}
 use Rattle.mapping.proofs.PageNumbers.{number-of, number-back, page-numbers}
 use Rattle.addr.specs.Item.{Item, itemRefusal}
 use Rattle.image.specs.Entry.{entry}
@@ -30,13 +30,19 @@ use Rattle.image.specs.Translate.{translated, imageRefusal, rootTable, p
 use Rattle.image.specs.Search.{Report, pageItem, frameItem, report, imagePages, searchRefusal, searching}
 use Rattle.addr.specs.declared.width.Width.the-variants.{Bits48}
 use Rattle.addr.proofs.Widths.{widths}
-use Rattle.image.specs.Agreement.{stateIn, translatedPages, PagesTranslated, IsPage, Reported, Reports, callFrom, RunsAgree}
+use Rattle.image.specs.Agreement.{stateIn, translatedPages, AtFrame, PagesTranslated, IsPage, Reported, Reports, callFrom, RunsAgree}
 
 -- the state that translation answers is the one that the walk says
 state-translated : (a : ℕ) (s : Walked) → stateIn (gives (translated a s)) ≡ stateOf s
 state-translated a (absent l) = refl
 state-translated a (broken l r) = refl
 state-translated a (mapped g l h) = ap (λ (n : ℕ). page.mapped n h) (high g 12 (mod-lt a (pow-pos 12)))
+
+-- an address that is whole pages from 0 is translated to a frame's first
+at-frame : (a : ℕ) → a % 4096 ≡ 0 → (s : Walked) → AtFrame (translated a s)
+at-frame a e (absent l) = tt
+at-frame a e (broken l r) = tt
+at-frame a e (mapped g l h) = omega (arith, e)
 
 -- an answer's page is a page of the space
 PageBelow : ℕ → Answer → Type 0
@@ -103,14 +109,17 @@ module _ (w levels : ℕ) (v : IsWidth w) (e : w ≡ 9 * levels + 12) where
     page-state : (n : ℕ) → stateIn (translation w levels image base root (start w 4096 n)) ≡ stateOf (walked n)
     unfolding translation
     page-state n =
-        let a = start w 4096 n in
-        rw (ok, sign-canonical w v (n * 4096)) (state-translated a (walked (pageNumber w a)))
+        rw (ok, sign-canonical w v (n * 4096)) (state-translated _ (walked (pageNumber w (start w 4096 n))))
         ∙ ap (λ (x : ℕ). stateOf (walked x)) (number-of w levels v e n)
         ∙ ap stateOf (walk-low (entry 52 true) (tableAt image base) levels levels t allRights n (omega arith))
 
     page-translated : PagesTranslated w levels image base root
     unfolding translation
-    page-translated n h = (translated (start w 4096 n) (walked (pageNumber w (start w 4096 n))), rw (ok, sign-canonical w v (n * 4096)))
+    page-translated n h = (
+      translated (start w 4096 n) (walked (pageNumber w (start w 4096 n))),
+      rw (ok, sign-canonical w v (n * 4096)),
+      at-frame (start w 4096 n) (start-whole n) (walked (pageNumber w (start w 4096 n))),
+    )
 
     -- the pages as translation answers them are the pages as the walk says
     pub same-pages : translatedPages w levels image base root ≡ pages
@@ -148,9 +157,9 @@ runs-agree w levels v e image base root ok = (
       (subst (λ (s : Space). Calls s (Reports w) (callFrom w levels image base root) 0 replies passed) (same-pages w levels v e image base root ok) calls),
 )
 
--- the pages that this is about are those of the addresses
-pub page-numbers-48 : (image : List ℕ) (base root : ℕ) → PageNumbers 48 4 (translatedPages 48 4 image base root)
-page-numbers-48 image base root = page-numbers 48 4 (widths Bits48) refl (translatedPages 48 4 image base root .page)
-
 pub runs-agree-48 : RunsAgree 48 4
 runs-agree-48 = runs-agree 48 4 (widths Bits48) refl
+
+-- the pages that it speaks of are those of the addresses
+pub page-numbers-48 : (image : List ℕ) (base root : ℕ) → PageNumbers 48 4 (translatedPages 48 4 image base root)
+page-numbers-48 image base root = page-numbers 48 4 (widths Bits48) refl (translatedPages 48 4 image base root .page)

@@ -9,14 +9,14 @@ use Rattle.laws.specs.Number.{start}
 use Rattle.laws.specs.Width.{signExtend}
 use Rattle.mapping.specs.Pages.{reserved, outside}
 use Rattle.mapping.specs.Search.{Answer, end, stop, run}
-use Rattle.image.specs.Search.{Report, report, reportWords}
+use Rattle.image.specs.Search.{Report, report, reportWords, pageItem, frameItem}
 use Rattle.image.specs.Search as reports
 use Rattle.image.specs.Found.{foundOf}
 use Rattle.image.specs.declared.found.Found.{Found}
 use Rattle.image.specs.List.{allWords}
 
 -- the five words: `x` the page's address, `n` the address of a run's frame or a stop's level
-pub five-words : (f : Found) (a : Answer) (x n : ℕ) → f ≡ foundOf a → x ≡ start 48 4096 (f .page) → (f .kind ≡ 1 → n ≡ f .place * 4096)
+pub five-words : (f : Found) (a : Answer) (x n : ℕ) → f ≡ foundOf a → x ≡ pageItem 48 (f .page) .start → (f .kind ≡ 1 → n ≡ frameItem (f .place) .start)
     → ((f .kind ≡ 1 → ⊥) → n ≡ f .place) → f .kind ∷ x ∷ n ∷ f .count ∷ f .rights ∷ [] ≡ reportWords (report 48 a)
 unfolding foundOf signExtend
 five-words f end x n e p y z =
@@ -30,7 +30,7 @@ five-words f (stop q l outside) x n e p y z =
     let m : n ≡ l = rw e at (z (λ k. let o : _≡_ {A = ℕ} 3 1 = rw e at k in omega arith)) in
     rw (p, e, m)
 five-words f (run q g c h) x n e p y z =
-    let m : n ≡ g * 4096 = rw e at (y (ap (λ (v : Found). v .kind) e)) in
+    let m : n ≡ frameItem g .start = rw e at (y (ap (λ (v : Found). v .kind) e)) in
     rw (p, e, m)
 
 -- five stores, one after the other

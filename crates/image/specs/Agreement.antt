@@ -1,6 +1,6 @@
 -- That the list of run searches from page zero agrees with translating all 4 KiB pages singly: document 01, "Words of demand 3". The claims about a list are those of
 -- crates/mapping/specs/Agreement.antt; here are the pages and the calls that they are about, for the width `w` with that many levels.
-use Prim.Native.Nat.{ℕ, _*_, _/_, _<_}
+use Prim.Native.Nat.{ℕ, _*_, _/_, _%_, _<_}
 use mathlib.Core.Path.{_≡_}
 use mathlib.Core.Bool.{true}
 use mathlib.Core.List.{List}
@@ -54,9 +54,15 @@ Reports w o a = (r : Report) × (o ≡ gives r) × Reported w a r
 abbrev pub callFrom : (w levels : ℕ) → List ℕ → (base root : ℕ) → ℕ → Outcome Report
 callFrom w levels image base root n = searching w levels image base root (start w 4096 n)
 
+-- "its frame is the one at the physical address answered": a frame is at its first address
+abbrev pub AtFrame : Translated → Type 0
+AtFrame (mapped p z h) = p % 4096 ≡ 0
+AtFrame (absent l) = Unit {0}
+AtFrame (broken l r) = Unit {0}
+
 -- translation gives an answer for the first address of every page
 abbrev pub PagesTranslated : (w levels : ℕ) → List ℕ → (base root : ℕ) → Type 0
-PagesTranslated w levels image base root = (n : ℕ) → n < spanPages levels → (t : Translated) × (translation w levels image base root (start w 4096 n) ≡ gives t)
+PagesTranslated w levels image base root = (n : ℕ) → n < spanPages levels → (t : Translated) × (translation w levels image base root (start w 4096 n) ≡ gives t) × AtFrame t
 
 -- "All this is one claim about the whole list of answers, whatever its length": of every list of calls from page zero on an image, base and root that are accepted
 abbrev pub RunsAgree : (w levels : ℕ) → Type 0

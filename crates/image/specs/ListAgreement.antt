@@ -1,12 +1,13 @@
 -- That what `list` writes agrees with translating all 4 KiB pages singly: its answers are the replies of a list of searches from page zero, so that all claims about
 -- such lists hold of them. Document 01: "Each search of a list gets the next page that the one before it left; none follows once the search is over."
-use Prim.Native.Nat.{ℕ, _*_, _^_, _≤_, _<_}
+use Prim.Native.Nat.{ℕ, _*_, _≤_, _<_}
 use mathlib.Core.Path.{_≡_}
 use mathlib.Core.List.{List, _++_, map}
 use mathlib.Core.Option.{Option, none, some}
 use lib.ListN.{take}
 use Rattle.answer.specs.Outcome.{gives}
 use Rattle.mapping.specs.Agreement.{Calls, Agreement}
+use Rattle.mapping.specs.Walk.{spanPages}
 use Rattle.addr.specs.Item.{Item}
 use Rattle.image.specs.Translate.{imageRefusal}
 use Rattle.image.specs.Search.{Report, answerWords}
@@ -25,7 +26,7 @@ abbrev pub Answered : (call : ℕ → List ℕ → Listing) → (a : ℕ) → Li
 Answered call a out = (l : Listed) × (call a out .answer ≡ gives l) × (l .written ≤ room out) × ((p : Item) → l .next ≡ some p → l .written ≡ room out)
 
 -- the claims about a chain of calls from page zero: the words that it wrote, and the page that it left
-pub record ChainAgrees (w levels : ℕ) (image : List ℕ) (base root : ℕ) (call : ℕ → List ℕ → Listing) (words : List ℕ) (left : Option Item) : Type 0 where
+pub record ChainAgrees (w levels : ℕ) (image : List ℕ) (base root : ℕ) (call : ℕ → List ℕ → Listing) (words : List ℕ) (next : Option Item) : Type 0 where
   pub reports : List Report
   pub passed : ℕ
   -- the words are those of reports, in order
@@ -35,15 +36,15 @@ pub record ChainAgrees (w levels : ℕ) (image : List ℕ) (base root : ℕ) (ca
   -- so that all claims about such lists hold of them
   pub agreement : Agreement (translatedPages w levels image base root) (Reports w) (callFrom w levels image base root) (map gives reports) passed
   -- what is left is the next page; none only once all pages are passed
-  pub next-page : (p : Item) → left ≡ some p → (passed < 2 ^ (9 * levels)) × IsPage w passed p
-  pub over : left ≡ none → passed ≡ 2 ^ (9 * levels)
+  pub next-page : (p : Item) → next ≡ some p → (passed < spanPages levels) × IsPage w passed p
+  pub over : next ≡ none → passed ≡ spanPages levels
   -- whatever is lent, the chain goes on from there
-  pub goes-on : (p : Item) → left ≡ some p → (out : List ℕ) → Answered call (p .start) out
+  pub goes-on : (p : Item) → next ≡ some p → (out : List ℕ) → Answered call (p .start) out
 
 -- whatever is lent, a call from page zero is answered; and every chain of calls agrees
 abbrev pub ChainsAgree : (w levels : ℕ) → List ℕ → (base root : ℕ) → (call : ℕ → List ℕ → Listing) → Type 0
 ChainsAgree w levels image base root call =
-    ((out : List ℕ) → Answered call 0 out) × ((words : List ℕ) (left : Option Item) → Chain call 0 words left → ChainAgrees w levels image base root call words left)
+    ((out : List ℕ) → Answered call 0 out) × ((words : List ℕ) (next : Option Item) → Chain call 0 words next → ChainAgrees w levels image base root call words next)
 
 abbrev pub ListsAgree : (w levels : ℕ) → Type 0
 ListsAgree w levels =

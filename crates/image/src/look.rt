@@ -60,6 +60,6 @@ pub(crate) fn look_at(image: &[u64], base: u64, table: u64, below: u64, page: u6
     if words.len() < TABLE_WORDS {
         return Look::Outside;
     }
-    let word = words[((page >> (9 * below)) & 511) as usize];
+    let word = words[(page >> (9 * below)) as usize % TABLE_WORDS];
     look_word(below, word)
 }

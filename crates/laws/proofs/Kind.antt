@@ -24,7 +24,7 @@ pub record Reads {P A : Type 0} (k : Kind P A) : Type 0 where
 module _ {P A D S : Type 0} (k : Kind P A) (made : A → P → P → D) (answer : D → A) (range : D → S) (ends : P → P → S)
     (p : Reads k) (q : (a : A) (x y : P) → (answer (made a x y) ≡ a) × (range (made a x y) ≡ ends x y)) (x y : P) (d : Draw) where
   pub of-settled : (m : ℕ) → m ≡ 0
-      → drawnOf k (answer (drawn k made x y m d)) (range (drawn k made x y m d)) ≡ some (record { item = d .item; left = ends (k .placed x (d .start)) (k .placed y (d .end)) })
+      → drawnOf k (answer (drawn k made x y m d)) (range (drawn k made x y m d)) ≡ some (record { item = d .item; range = ends (k .placed x (d .start)) (k .placed y (d .end)) })
   of-settled m h =
       let (u, v) = q (k .answered x (d .item)) (k .placed x (d .start)) (k .placed y (d .end)) in
       rw (h, u, v, p .of-answer x (d .item))

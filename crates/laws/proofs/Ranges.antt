@@ -26,7 +26,7 @@ pub record Ends {P A S D : Type 0} (made : A → P → P → D) (answer : D → 
 
 -- what a draw gives and leaves
 abbrev pub drawnAt : {P A S : Type 0} → Kind P A → (P → P → S) → P → P → Draw → Drawn S
-drawnAt k ends x y d = record { item = d .item; left = ends (k .placed x (d .start)) (k .placed y (d .end)) }
+drawnAt k ends x y d = record { item = d .item; range = ends (k .placed x (d .start)) (k .placed y (d .end)) }
 
 -- a draw on the numbers of the range from `x` to `y`, by the size of `x`
 abbrev pub onEnds : {P : Type 0} → (P → ℕ) → (P → ℕ) → (ℕ → ℕ → ℕ → ℕ → Draw) → ℕ → P → P → Draw
@@ -77,7 +77,7 @@ module _ {P A : Type 0} {k : Kind P A} {start bytes : P → ℕ} {top : P → �
   drawn-again : (x y : P) (a b : ℕ) (d : Draw) → drawnAt k ends (k .placed x a) (k .placed y b) d ≡ drawnAt k ends x y d
   drawn-again x y a b d = rw (i .again x a (d .start), i .again y b (d .end))
 
-  out-after : (n : ℕ) (r : S) → Given (first r) (last r) → out n (out 0 r .left) ≡ out (suc n) r
+  out-after : (n : ℕ) (r : S) → Given (first r) (last r) → out n (out 0 r .range) ≡ out (suc n) r
   out-after n r g =
       let x = first r in
       let y = last r in
@@ -86,7 +86,7 @@ module _ {P A : Type 0} {k : Kind P A} {start bytes : P → ℕ} {top : P → �
       (drawn-again x y (d .start) (d .end) (onEnds start bytes on n (first-left x y) (last-left x y))
       ∙ ap (drawnAt k ends x y) (placed-at x y (d .start) (d .end) n ∙ f .steps x y g .after (start x) (start y) n (f .start-within x y g) (f .end-within x y g)))
 
-  free-left : (n : ℕ) (r : S) → Free n (first-left (first r) (last r)) (last-left (first r) (last r)) ≡ Free n (first (out 0 r .left)) (last (out 0 r .left))
+  free-left : (n : ℕ) (r : S) → Free n (first-left (first r) (last r)) (last-left (first r) (last r)) ≡ Free n (first (out 0 r .range)) (last (out 0 r .range))
   free-left n r = let x = first r in let y = last r in rw (e .first-of (first-left x y) (last-left x y), e .last-of (first-left x y) (last-left x y))
 
   none-moved : (r : S) → ends (k .placed (first r) (start (first r))) (k .placed (last r) (start (last r))) ≡ r
@@ -102,7 +102,7 @@ module _ {P A : Type 0} {k : Kind P A} {start bytes : P → ℕ} {top : P → �
         after = λ n r g h. (f .after n (first r) (last r) g (rw (free-left n r) h), out-after n r (f .given 0 (first r) (last r) g));
         before = λ n r g. let (u, v) = f .before n (first r) (last r) g in (u, rw (← free-left n r) v);
         past = λ n m r g l h. ap (drawnAt k ends (first r) (last r)) (f .steps (first r) (last r) g .past (start (first r)) (start (last r)) n m l h);
-        empty = λ n r g l. ap (drawnAt k ends (first r) (last r)) (f .steps (first r) (last r) g .empty (start (first r)) (start (last r)) n (f .start-within (first r) (last r) g) l) ∙ ap (λ (s : S). record { item = none; left = s }) (none-moved r);
+        empty = λ n r g l. ap (drawnAt k ends (first r) (last r)) (f .steps (first r) (last r) g .empty (start (first r)) (start (last r)) n (f .start-within (first r) (last r) g) l) ∙ ap (λ (s : S). record { item = none; range = s }) (none-moved r);
         empty-len = λ r h. f .empty-len (first r) (last r) h;
         empty-free = λ n r g h. f .empty-free n (first r) (last r) g h;
       }

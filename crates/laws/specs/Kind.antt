@@ -21,4 +21,4 @@ drawn k made x y (suc n) d = made (k .refused (suc n)) x y
 
 -- an answer and the range left as what a draw gives and leaves; none where it is refused
 abbrev pub drawnOf : {P A S : Type 0} → Kind P A → A → S → Option (Drawn S)
-drawnOf k a s = Option·map (λ x. record { item = x; left = s }) (k .item a)
+drawnOf k a s = Option·map (λ x. record { item = x; range = s }) (k .item a)

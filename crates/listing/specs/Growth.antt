@@ -13,7 +13,7 @@ ZerosBehind n bytes = drop n bytes ≡ replicate (lineBytes - n) 0
 -- a line with room for `k` bytes more
 pub record Room (k : ℕ) (l : Line) : Type 0 where
   pub whole : length (l .bytes) ≡ lineBytes
-  pub left : l .len + k ≤ lineBytes
+  pub room : l .len + k ≤ lineBytes
   pub zeros : ZerosBehind (l .len) (l .bytes)
 
 -- the line `r` is `l` with `more` behind it, at most `k` bytes

@@ -7,7 +7,7 @@ use lib.Pow.{shr-shr, shl-shr, shl-lt, field, split, pow-pos, pow-add}
 use Rattle.laws.specs.Width.{IsWidth, half, low}
 use Rattle.laws.specs.Number.{number, start}
 use Rattle.laws.specs.Index.{index}
-use Rattle.laws.proofs.Width.{sizes, sign-low, sign-of-low, sign-set}
+use Rattle.laws.proofs.Width.{sizes, sign-low, sign-of-low, sign-set, sign-canonical}
 use Rattle.laws.proofs.Index.{index-low}
 use Rattle.mapping.specs.Pages.{PageState}
 use Rattle.mapping.specs.Walk.{entryIndex, spaceOf}
@@ -84,6 +84,7 @@ pub page-numbers : (w levels : ℕ) → IsWidth w → w ≡ 9 * levels + 12 → 
 page-numbers w levels v e page =
     record {
       inside = number-inside w levels v e;
+      starts = λ n. sign-canonical w v (n * 4096);
       back = number-back w levels v e;
       indices = index-of w levels v e;
       spans = λ x y l i j p h. (same-indices w levels v e x y i j l p, same-span w levels v e x y i j (levels + 1 - l) l (omega arith) p);

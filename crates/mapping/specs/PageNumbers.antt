@@ -2,8 +2,9 @@
 -- sentences are those of document 01, "Indices" and "Translation and mapped runs".
 use Prim.Native.Nat.{ℕ, _-_, _/_, _≤_, _<_}
 use mathlib.Core.Path.{_≡_}
+use mathlib.Core.Bool.{true}
 use mathlib.Core.Logic.{_↔_}
-use Rattle.laws.specs.Width.{half, firstHigh}
+use Rattle.laws.specs.Width.{half, firstHigh, canonical}
 use Rattle.laws.specs.Number.{number, start}
 use Rattle.laws.specs.Index.{index}
 use Rattle.mapping.specs.Pages.{Space}
@@ -14,8 +15,9 @@ abbrev pub SameIndices : (w levels l x y : ℕ) → Type 0
 SameIndices w levels l x y = (k : ℕ) → l ≤ k → k ≤ levels → index k (start w 4096 x) ≡ index k (start w 4096 y)
 
 pub record PageNumbers (w levels : ℕ) (s : Space) : Type 0 where
-  -- each address is in a page of the space, and each page starts at an address
+  -- each address is in a page of the space, and each page starts at an address, which is in that page
   pub inside : (a : ℕ) → number w 4096 a < s .size
+  pub starts : (n : ℕ) → canonical w (start w 4096 n) ≡ true
   pub back : (n : ℕ) → n < s .size → number w 4096 (start w 4096 n) ≡ n
   -- "The index at a level is nine bits from bit 12 + 9 × (level − 1)": so is the walk's, of an address by its page
   pub indices : (a l : ℕ) → 1 ≤ l → l ≤ levels → entryIndex (l - 1) (number w 4096 a) ≡ index l a

@@ -318,14 +318,14 @@ pages-inclusive-one-by-one v = one-by-one (given-inclusive v)
 
 -- each page once
 module _ (v : Width) (r : PageRange) (d : Drawn PageRange) where
-  front-drawn : nextFrom (widthOf v) front r ≡ some d → (d .item ≡ getElem? (pagesOf (widthOf v) r) 0) × (pagesOf (widthOf v) (d .left) ≡ drop 1 (pagesOf (widthOf v) r))
+  front-drawn : nextFrom (widthOf v) front r ≡ some d → (d .item ≡ getElem? (pagesOf (widthOf v) r) 0) × (pagesOf (widthOf v) (d .range) ≡ drop 1 (pagesOf (widthOf v) r))
   front-drawn h =
       let q = settled-is (given-range v front) 0 r d h in
       let (e, g) = given-range v front .free 0 r d h in
       let p = ranges.accepted v (r .start) (r .end) e .ends in
       rw q (sym (front-below (widthOf v) (bytes (r .start)) (start (r .start)) (start (r .end)) p 0 g), pages-front-left (widthOf v) (bytes (r .start)) (start (r .start)) (start (r .end)) p 0 g)
 
-  back-drawn : nextFrom (widthOf v) back r ≡ some d → (d .item ≡ getElem? (reverse (pagesOf (widthOf v) r)) 0) × (reverse (pagesOf (widthOf v) (d .left)) ≡ drop 1 (reverse (pagesOf (widthOf v) r)))
+  back-drawn : nextFrom (widthOf v) back r ≡ some d → (d .item ≡ getElem? (reverse (pagesOf (widthOf v) r)) 0) × (reverse (pagesOf (widthOf v) (d .range)) ≡ drop 1 (reverse (pagesOf (widthOf v) r)))
   back-drawn h =
       let q = settled-is (given-range v back) 0 r d h in
       let (e, g) = given-range v back .free 0 r d h in
@@ -336,7 +336,7 @@ module _ (v : Width) (r : PageRangeInclusive) (d : Drawn PageRangeInclusive) whe
   abbrev all : List ℕ
   all = ranges.numbersInclusiveIn (r .start) (r .end)
 
-  front-inclusive-drawn : nextInclusiveFrom (widthOf v) front r ≡ some d → (d .item ≡ getElem? (pagesInclusiveOf (widthOf v) r) 0) × (pagesInclusiveOf (widthOf v) (d .left) ≡ drop 1 (pagesInclusiveOf (widthOf v) r))
+  front-inclusive-drawn : nextInclusiveFrom (widthOf v) front r ≡ some d → (d .item ≡ getElem? (pagesInclusiveOf (widthOf v) r) 0) × (pagesInclusiveOf (widthOf v) (d .range) ≡ drop 1 (pagesInclusiveOf (widthOf v) r))
   front-inclusive-drawn h =
       let q = settled-is (given-inclusive v front) 0 r d h in
       let (e, g) = given-inclusive v front .free 0 r d h in
@@ -347,7 +347,7 @@ module _ (v : Width) (r : PageRangeInclusive) (d : Drawn PageRangeInclusive) whe
         pages-front-through-left (widthOf v) (bytes (r .start)) (start (r .start)) (start (r .end)) (a .ends) all (topPage (bytes (r .start))) 0 (omega (arith, a .first)) (omega (arith, a .last)) (omega arith) g,
       )
 
-  back-inclusive-drawn : nextInclusiveFrom (widthOf v) back r ≡ some d → (d .item ≡ getElem? (reverse (pagesInclusiveOf (widthOf v) r)) 0) × (reverse (pagesInclusiveOf (widthOf v) (d .left)) ≡ drop 1 (reverse (pagesInclusiveOf (widthOf v) r)))
+  back-inclusive-drawn : nextInclusiveFrom (widthOf v) back r ≡ some d → (d .item ≡ getElem? (reverse (pagesInclusiveOf (widthOf v) r)) 0) × (reverse (pagesInclusiveOf (widthOf v) (d .range)) ≡ drop 1 (reverse (pagesInclusiveOf (widthOf v) r)))
   back-inclusive-drawn h =
       let q = settled-is (given-inclusive v back) 0 r d h in
       let (e, g) = given-inclusive v back .free 0 r d h in

@@ -1,5 +1,5 @@
 -- What a draw of pages leaves, where it does not meet the gap: the range left stands for the pages without those drawn, counted from the end they are drawn from.
-use Prim.Native.Nat.{ℕ, _+_, _-_, _≤_}
+use Prim.Native.Nat.{ℕ, _+_, _≤_}
 use mathlib.Core.Path.{_≡_, ap, _∙_}
 use mathlib.Core.Bool.{false}
 use mathlib.Core.List.{List, reverse}

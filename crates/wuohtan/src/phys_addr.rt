@@ -7,8 +7,8 @@ use convention::give_u64;
 ghost use mathlib.Core.Path.{_≡_};
 ghost use mathlib.Core.List.{[], _∷_};
 ghost use Rattle.answer.specs.Outcome.{gives};
-ghost use Prim.Native.Nat.{_%_, _^_};
-ghost use Rattle.addr.specs.Address.{phys, address, isNull, isAligned, plus, minus, distance, alignDownPhys, alignUpPhys};
+ghost use Prim.Native.Nat.{_%_};
+ghost use Rattle.addr.specs.Address.{phys, physSize, address, isNull, isAligned, plus, minus, distance, alignDownPhys, alignUpPhys};
 ghost use Rattle.convention.specs.Convention.{left, leaves, word, truth};
 
 #[no_mangle]
@@ -27,7 +27,7 @@ pub extern "C" fn wuohtan_phys_addr_try_new(addr: u64, out: &mut [u64]) -> u8
 
 #[no_mangle]
 pub extern "C" fn wuohtan_phys_addr_new_truncate(addr: u64, out: &mut [u64]) -> u8
-    ensures { λ r. ⌜ left r (now (out .exit)) ≡ leaves (gives (addr % 2 ^ 52 ∷ [])) (now (out .entry)) ⌝ }
+    ensures { λ r. ⌜ left r (now (out .exit)) ≡ leaves (gives (addr % physSize ∷ [])) (now (out .entry)) ⌝ }
 {
     give(PhysAddr::new_truncate(addr).0, out)
 }

@@ -1,10 +1,7 @@
 -- `look_at` meets its contract.
 use mathlib.Core.Path.{_≡_, _∙_}
 use mathlib.Core.Option.{none, some}
-use Prim.Native.Nat.{_*_, _/_, _^_}
-use native.Mathlib.Omega.{arith}
 use denote.Ref.{now}
-use lib.Bits.{and-mask, mask-lt}
 use borrow.Author.Needs.{needs}
 use Rattle.image.specs.Memory.{tableAt, tableWords}
 use Rattle.image.specs.Look.{lookIn}
@@ -30,12 +27,10 @@ shr-word : tie.Need-shr-word
 shr-word c = search needs
 
 mul-word-2 : tie.Need-mul-word-2
-mul-word-2 c = let a = c .before .before .before .args in omega (arith, mask-lt (a .page / 2 ^ (9 * a .below)) 9)
+mul-word-2 c = search needs
 
 shared-slice-read-word : tie.Need-shared-slice-read-word
-shared-slice-read-word c =
-    let a = c .before .before .before .before .args in
-    omega (arith, mask-lt (a .page / 2 ^ (9 * a .below)) 9, c .before .if1 .left)
+shared-slice-read-word c = search needs
 
 look-word-requires : tie.Need-look-word-requires
 look-word-requires c κs = search needs
@@ -47,7 +42,7 @@ returns-2 c =
     let o = tableAt (now (a .image)) (a .base) (a .table) in
     let e = c .before .before .before .table-at .ensures in
     let t : o ≡ some (tableWords o) = table-some (now (a .image)) (a .base) (a .table) (rw e at (c .before .before .if1 .left)) in
-    c .look-word .ensures ∙ rw (and-mask (a .page / 2 ^ (9 * a .below)) 9, e, t)
+    c .look-word .ensures ∙ rw (e, t)
 
 pub look-at-spec : {M : Type 1} → statement M
 look-at-spec =

@@ -54,7 +54,7 @@ rights c = within (omega arith) (rw (c .before .before .before .before .before .
 returns : tie.Need-returns
 unfolding runLine
 returns c =
-    holds (c .before .before .before .before .before .before .before .before .before .new .ensures .0) (omega (arith, c .before .before .before .before .before .before .before .before .before .new .ensures .1 .left))
+    holds (c .before .before .before .before .before .before .before .before .before .new .ensures .0) (omega (arith, c .before .before .before .before .before .before .before .before .before .new .ensures .1 .room))
     (behind (c .before .before .before .before .before .before .before .with .ensures) (behind (c .before .before .before .before .before .before .with-hex .ensures) (behind (c .before .before .before .before .before .with-byte .ensures) (behind (c .before .before .before .before .with-hex2 .ensures) (behind (c .before .before .before .with-byte2 .ensures) (behind (c .before .before .with-decimal .ensures) (rights c)))))))
 
 pub run-line-spec : {M : Type 1} → statement M

@@ -21,7 +21,7 @@ twenty : (c : tie.After-decimal) → c .decimal .result ≤ 20
 twenty c = at-most 10 1 20 (omega arith) (omega arith) (omega (arith, c .before .before .fits .n .fits)) (c .decimal .ensures .1 .0)
 
 with-requires : tie.Need-with-requires
-with-requires c κs = record { whole = c .before .before .before .pre .whole; left = omega (arith, c .before .decimal .ensures .0 .1, twenty (c .before)); zeros = c .before .before .before .pre .zeros }
+with-requires c κs = record { whole = c .before .before .before .pre .whole; room = omega (arith, c .before .decimal .ensures .0 .1, twenty (c .before)); zeros = c .before .before .before .pre .zeros }
 
 returns : tie.Need-returns
 returns c =

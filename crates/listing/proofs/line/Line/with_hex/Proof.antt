@@ -20,7 +20,7 @@ sixteen : (c : tie.After-hex) → c .hex .result ≡ 16
 sixteen c = omega (arith, c .hex .ensures .1 .0 .0, at-most 16 16 16 (omega arith) (omega arith) (omega (arith, c .before .before .fits .n .fits)) (c .hex .ensures .1 .0))
 
 with-requires : tie.Need-with-requires
-with-requires c κs = record { whole = c .before .before .before .pre .whole; left = omega (arith, c .before .hex .ensures .0 .1, sixteen (c .before)); zeros = c .before .before .before .pre .zeros }
+with-requires c κs = record { whole = c .before .before .before .pre .whole; room = omega (arith, c .before .hex .ensures .0 .1, sixteen (c .before)); zeros = c .before .before .before .pre .zeros }
 
 returns : tie.Need-returns
 returns c = within (omega (arith, c .before .before .hex .ensures .0 .1, sixteen (c .before .before))) (c .before .before .hex .ensures .1 .1 ∙ rw (sixteen (c .before .before))) (c .with .ensures)
