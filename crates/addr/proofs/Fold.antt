@@ -1,16 +1,17 @@
 -- "Virtual results are sign-extended as in the source, so downward to 2^48 gives 0": to every power of two from 2^w on.
 use Prim.Native.Nat.{ℕ, _+_, _-_, _*_, _/_, _^_, _≤_}
-use mathlib.Core.Path.{_≡_, sym, ap, _∙_}
+use mathlib.Core.Path.{_≡_, sym, _∙_}
 use mathlib.Core.Bool.{true}
 use native.Mathlib.Omega.{arith}
 use native.Mathlib.Nat.{mul-mod-left, mul-assoc, zero-mod}
 use lib.Count.{ones, ones-cat}
-use lib.Pow.{pow-add, pow-pos}
+use lib.Pow.{pow-pos}
 use borrow.Author.Tests.{eq-eqb}
 use Rattle.answer.specs.Outcome.{gives}
 use Rattle.laws.specs.Width.{IsWidth, low, canonical, signExtend}
 use Rattle.laws.specs.Align.{powerOfTwo, down}
 use Rattle.laws.proofs.Width.{sign-by-low, sign-zero}
+use Rattle.laws.proofs.Align.{blocks}
 use Rattle.addr.specs.Address.{alignDownVirt}
 
 power : (k : ℕ) → powerOfTwo (2 ^ k) ≡ true
@@ -23,9 +24,7 @@ power k =
 module _ (w k : ℕ) (v : IsWidth w) (h : w ≤ k) where
   low-multiple : (n : ℕ) → low w (n * 2 ^ k) ≡ 0
   low-multiple n =
-      let e : k - w + w ≡ k = omega arith in
-      let p : 2 ^ (k - w + w) ≡ 2 ^ (k - w) * 2 ^ w = pow-add 2 (k - w) w in
-      rw (sym (ap (λ (x : ℕ). 2 ^ x) e) ∙ p, ← mul-assoc n (2 ^ (k - w)) (2 ^ w)) (mul-mod-left (n * 2 ^ (k - w)) (2 ^ w))
+      rw (← blocks w k h, ← mul-assoc n (2 ^ (k - w)) (2 ^ w)) (mul-mod-left (n * 2 ^ (k - w)) (2 ^ w))
 
   pub down-to-zero : (a : ℕ) → canonical w a ≡ true → alignDownVirt w a (2 ^ k) ≡ gives 0
   unfolding down

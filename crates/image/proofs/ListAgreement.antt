@@ -48,7 +48,7 @@ left-none k n x = go (ltb n k) refl
     go false t e = ltb-false n k t
 
 -- what calls from page `n` of a space on wrote and left
-record Drawn (w : ℕ) (s : Space) (n : ℕ) (words : List ℕ) (left : Option Item) : Type 0 where
+record Wrote (w : ℕ) (s : Space) (n : ℕ) (words : List ℕ) (left : Option Item) : Type 0 where
   answers : List Answer
   reached : ℕ
   searched : Searches s n answers reached
@@ -56,7 +56,7 @@ record Drawn (w : ℕ) (s : Space) (n : ℕ) (words : List ℕ) (left : Option I
   remains : left ≡ cond (ltb reached (s .size)) (some (pageItem w reached)) none
 
 -- calls that go on where others ended
-then : (w : ℕ) (s : Space) (n : ℕ) (words later : List ℕ) (left end : Option Item) (d : Drawn w s n words left) → Drawn w s (d .reached) later end → Drawn w s n (words ++ later) end
+then : (w : ℕ) (s : Space) (n : ℕ) (words later : List ℕ) (left end : Option Item) (d : Wrote w s n words left) → Wrote w s (d .reached) later end → Wrote w s n (words ++ later) end
 then w s n words later left end d f =
     record {
       answers = d .answers ++ f .answers;
@@ -82,7 +82,7 @@ module _ (w : ℕ) (s : Space) (call : ℕ → List ℕ → Listing)
   )
 
   first-call : (n : ℕ) (l : Listed) (out : List ℕ) → n < s .size → call (start w 4096 n) out .answer ≡ gives l
-      → Drawn w s n (take (answerWords * l .written) (call (start w 4096 n) out .words)) (l .next)
+      → Wrote w s n (take (answerWords * l .written) (call (start w 4096 n) out .words)) (l .next)
   first-call n l out h g =
       let c = listed n out h in
       let rs = reportsFrom w s (room out) n in
@@ -97,12 +97,12 @@ module _ (w : ℕ) (s : Space) (call : ℕ → List ℕ → Listing)
         remains = ap (λ (x : Listed). x .next) same;
       }
 
-  chain-drawn : {a : ℕ} {words : List ℕ} {left : Option Item} → Chain call a words left → (n : ℕ) → n < s .size → a ≡ start w 4096 n → Drawn w s n words left
-  chain-drawn (one {a} {l} out g) n h q = rw q (first-call n l out h (rw q at g))
-  chain-drawn (more {a} {l} {p} {words} {e = end} out g x rest) n h q =
+  chain-wrote : {a : ℕ} {words : List ℕ} {left : Option Item} → Chain call a words left → (n : ℕ) → n < s .size → a ≡ start w 4096 n → Wrote w s n words left
+  chain-wrote (one {a} {l} out g) n h q = rw q (first-call n l out h (rw q at g))
+  chain-wrote (more {a} {l} {p} {words} {e = end} out g x rest) n h q =
       let d = first-call n l out h (rw q at g) in
       let (i, y) = left-some (s .size) (d .reached) (pageItem w (d .reached)) p (sym (d .remains) ∙ x) in
-      let f = chain-drawn rest (d .reached) i (ap (λ (k : Item). k .start) (sym y)) in
+      let f = chain-wrote rest (d .reached) i (ap (λ (k : Item). k .start) (sym y)) in
       rw q (then w s n (take (answerWords * l .written) (call (start w 4096 n) out .words)) words (l .next) end d f)
 
 module _ (w levels : ℕ) (v : IsWidth w) (e : w ≡ 9 * levels + 12) (image : List ℕ) (base root : ℕ) (ok : imageRefusal image base root ≡ 0) where
@@ -124,7 +124,7 @@ module _ (w levels : ℕ) (v : IsWidth w) (e : w ≡ 9 * levels + 12) (image : L
       rw (← call-answered w levels v e image base root ok n h)
       (calls.more h (calls-search w levels v e image base root ok .answer n h) (called r))
 
-  chain-agrees : (words : List ℕ) (left : Option Item) → Drawn w pages 0 words left → ChainAgrees w levels image base root call words left
+  chain-agrees : (words : List ℕ) (left : Option Item) → Wrote w pages 0 words left → ChainAgrees w levels image base root call words left
   chain-agrees words left d =
       let replies = map gives (map (report w) (d .answers)) in
       let agreement = agrees w levels v e image base root ok replies (d .reached) (called (d .searched)) in
@@ -149,7 +149,7 @@ lists-agree w levels v e image base root ok =
     let pages = imagePages levels image base (rootTable image base root) in
     let call = listing w levels image base root in (
       λ out. rw (sign-zero w) at (answered w pages call (listed w levels v e image base root ok) 0 h out),
-      λ words left c. chain-agrees w levels v e image base root ok words left (chain-drawn w pages call (listed w levels v e image base root ok) c 0 h (sym (sign-zero w))),
+      λ words left c. chain-agrees w levels v e image base root ok words left (chain-wrote w pages call (listed w levels v e image base root ok) c 0 h (sym (sign-zero w))),
     )
 
 pub lists-agree-48 : ListsAgree 48 4

@@ -28,8 +28,7 @@ pub enum ListAnswer {
 // How many words an answer takes.
 pub const ANSWER_WORDS: usize = 5;
 
-// Stores an answer: its kind (0 end, 1 run, 2 and 3 a stop that is reserved or outside), the address of its page, the address of its frame or its level, its count,
-// its rights as bits.
+// Stores an answer: its kind, the address of its page, the address of its frame or its level, its count, its rights as bits.
 fn store(out: &mut [u64], at: usize, found: Found)
     requires { ⌜ (at + answerWords ≤ length (now out)) × OfAnswer found ⌝ }
     ensures { λ _. ⌜ Stored at found (now (out .entry)) (now (out .exit)) ⌝ }

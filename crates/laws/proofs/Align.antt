@@ -1,5 +1,5 @@
 -- Laws of alignment: powers of two by their count of ones, the multiples on both sides of a number, and the mask that finds them.
-use mathlib.Core.Path.{_≡_, refl, ap, _∙_}
+use mathlib.Core.Path.{_≡_, refl, sym, ap, _∙_}
 use mathlib.Core.Logic.{_↔_}
 use Prim.Native.Nat.{ℕ, zero, suc, _+_, _-_, _*_, _/_, _%_, _^_, _≤_, _<_}
 use native.Mathlib.Omega.{arith}
@@ -83,6 +83,10 @@ module _ (n a : ℕ) (p : 0 < n) where
           let q : (a + (n - 1)) / n < m + 1 = div-lt-iff-lt-mul p .1 (omega (arith, add-mul m 1 n)) in
           mul-le-mul-right n (omega arith)
 
+-- a power of two is a whole number of each smaller one
+pub blocks : (k m : ℕ) → k ≤ m → 2 ^ (m - k) * 2 ^ k ≡ 2 ^ m
+blocks k m h = let e : m - k + k ≡ m = omega arith in let q : 2 ^ (m - k + k) ≡ 2 ^ (m - k) * 2 ^ k = pow-add 2 (m - k) k in sym (rw e at q)
+
 -- rounded up to a power of two, a 64-bit number is at most 2^64
 pub up-top : (n a : ℕ) → ones n ≡ 1 → n < 2 ^ 64 → a < 2 ^ 64 → up n a ≤ 2 ^ 64
 up-top n a e f h = go (one→power n e)
@@ -90,9 +94,7 @@ up-top n a e f h = go (one→power n e)
     go : Power n → up n a ≤ 2 ^ 64
     go (k, q) =
         let l : k < 64 = by-cases (decLt k 64) (λ l. l) (λ m. absurd (omega (arith, pow-mono {i = 64} {j = k} (omega arith)))) in
-        let s : 64 - k + k ≡ 64 = omega arith in
-        let t : 2 ^ (64 - k + k) ≡ 2 ^ (64 - k) * 2 ^ k = pow-add 2 (64 - k) k in
-        let m : 2 ^ 64 ≡ 2 ^ (64 - k) * n = rw (s, ← q) at t in
+        let m : 2 ^ 64 ≡ 2 ^ (64 - k) * n = rw (← q) at (sym (blocks k 64 (omega arith))) in
         rw m (up-least n a (one-bit-pos n e) .2 (2 ^ (64 - k)) (omega arith))
 
 -- whether `n` times `z` is within a bound, by the quotient of the bound
@@ -102,12 +104,10 @@ times-past n z m p h = div-lt-iff-lt-mul p .0 h
 pub times-within : (n z m : ℕ) → 0 < z → n ≤ m / z → n * z ≤ m
 times-within n z m p h = le-div-iff-mul-le p .0 h
 
--- a power of two is a whole number of each smaller one
+-- it is the quotient by a smaller one, times that
 pub pow-blocks : (k m : ℕ) → k ≤ m → 2 ^ m / 2 ^ k * 2 ^ k ≡ 2 ^ m
 pow-blocks k m h =
-    let e : m - k + k ≡ m = omega arith in
-    let p : 2 ^ (m - k + k) ≡ 2 ^ (m - k) * 2 ^ k = pow-add 2 (m - k) k in
-    let q : 2 ^ m ≡ 2 ^ (m - k) * 2 ^ k = rw e at p in
+    let q : 2 ^ m ≡ 2 ^ (m - k) * 2 ^ k = sym (blocks k m h) in
     rw q (ap (λ (x : ℕ). x * 2 ^ k) (mul-div-cancel (2 ^ (m - k)) (pow-pos k)))
 
 -- a multiple of a power of two that is below a larger one leaves room for one more

@@ -6,7 +6,7 @@ use Prim.Native.Nat.{ℕ, _+_, _-_, _*_, _/_, _%_, _^_, _≤_, _<_}
 use native.Mathlib.Omega.{arith}
 use native.Mathlib.Decide.{decLt}
 use native.Mathlib.Nat.{mod-eq-of-lt, mul-lt-mul-of-pos-right, lt-of-mul-lt-mul-right, mul-div-cancel, div-add-mod', add-mul, div-lt-iff-lt-mul, eq-of-mul-eq-mul-right, le-of-mul-le-mul-right}
-use lib.Pow.{pow-pos, pow-mono, pow-add, mod-mod-pow}
+use lib.Pow.{pow-pos, pow-mono, mod-mod-pow}
 use Rattle.answer.specs.Outcome.{gives}
 use Rattle.laws.specs.Width.{IsWidth, low, half, signExtend, InGap}
 use Rattle.laws.specs.Align.{down}
@@ -14,14 +14,10 @@ use Rattle.laws.specs.Steps.{forward, steps}
 use Rattle.laws.specs.Number.{number, start}
 use Rattle.laws.proofs.Cases.{by-cases}
 use Rattle.laws.proofs.Width.{low-lt, sign-low, sign-by-low, low-order, canonical-no-gap, no-gap-canonical}
-use Rattle.laws.proofs.Align.{down-greatest}
+use Rattle.laws.proofs.Align.{blocks, down-greatest}
 use Rattle.laws.proofs.Steps.{forward-gives, steps-gives}
 
 module _ (w k : ℕ) (v : IsWidth w) (h : k < w) where
-  -- the size divides the half, the space and 2^64
-  blocks : (m : ℕ) → k ≤ m → 2 ^ (m - k) * 2 ^ k ≡ 2 ^ m
-  blocks m p = let e : m - k + k ≡ m = omega arith in let q : 2 ^ (m - k + k) ≡ 2 ^ (m - k) * 2 ^ k = pow-add 2 (m - k) k in sym (rw e at q)
-
   -- the low part of a multiple is a multiple
   pub low-multiple : (a : ℕ) → low w a % 2 ^ k ≡ a % 2 ^ k
   low-multiple a = let e : w - k + k ≡ w = omega arith in let q : a % 2 ^ (w - k + k) % 2 ^ k ≡ a % 2 ^ k = mod-mod-pow a (w - k) k in rw e at q
@@ -39,7 +35,7 @@ module _ (w k : ℕ) (v : IsWidth w) (h : k < w) where
           let e : 2 ^ (64 - k) - 2 ^ (w - 1 - k) + 2 ^ (w - 1 - k) ≡ 2 ^ (64 - k) = omega arith in
           let q = add-mul (2 ^ (64 - k) - 2 ^ (w - 1 - k)) (2 ^ (w - 1 - k)) (2 ^ k) in
           let q′ : 2 ^ (64 - k) * 2 ^ k ≡ (2 ^ (64 - k) - 2 ^ (w - 1 - k)) * 2 ^ k + 2 ^ (w - 1 - k) * 2 ^ k = rw e at q in
-          omega (arith, blocks 64 (omega arith), blocks (w - 1) (omega arith))
+          omega (arith, blocks k 64 (omega arith), blocks k (w - 1) (omega arith))
 
       gap : InGap w (down (2 ^ k) a) → ⊥
       gap g =
@@ -50,7 +46,7 @@ module _ (w k : ℕ) (v : IsWidth w) (h : k < w) where
   pub number-start : (n : ℕ) → n < 2 ^ (w - k) → number w (2 ^ k) (start w (2 ^ k) n) ≡ n
   number-start n f =
       let l : n * 2 ^ k < 2 ^ (w - k) * 2 ^ k = mul-lt-mul-of-pos-right f (pow-pos k) in
-      let e : low w (n * 2 ^ k) ≡ n * 2 ^ k = mod-eq-of-lt (omega (arith, blocks w (omega arith))) in
+      let e : low w (n * 2 ^ k) ≡ n * 2 ^ k = mod-eq-of-lt (omega (arith, blocks k w (omega arith))) in
       rw (sign-low w v (n * 2 ^ k), e) (mul-div-cancel n (pow-pos k))
 
   -- a page is the one with its number
@@ -71,7 +67,7 @@ module _ (w k : ℕ) (v : IsWidth w) (h : k < w) where
 
   -- a page's number is below their count
   pub number-lt : (a : ℕ) → number w (2 ^ k) a < 2 ^ (w - k)
-  number-lt a = div-lt-iff-lt-mul (pow-pos k) .1 (omega (arith, low-lt w v a, blocks w (omega arith)))
+  number-lt a = div-lt-iff-lt-mul (pow-pos k) .1 (omega (arith, low-lt w v a, blocks k w (omega arith)))
 
   -- n pages on is the page whose number is n more
   pub forward-number : (s n t : ℕ) → signExtend w t ≡ t → s % 2 ^ k ≡ 0 → t % 2 ^ k ≡ 0

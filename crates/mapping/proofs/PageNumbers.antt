@@ -2,22 +2,18 @@
 use Prim.Native.Nat.{ℕ, zero, suc, _+_, _-_, _*_, _/_, _%_, _^_, _≤_, _<_}
 use mathlib.Core.Path.{_≡_, sym, ap, _∙_}
 use native.Mathlib.Omega.{arith}
-use native.Mathlib.Nat.{div-eq-of-lt, mod-lt, mod-eq-of-lt}
-use lib.Pow.{shr-shr, shl-shr, shl-lt, field, split, pow-pos, pow-add}
+use native.Mathlib.Nat.{div-eq-of-lt, mod-eq-of-lt}
+use lib.Pow.{shr-shr, shl-shr, shl-lt, field, split, pow-add}
 use Rattle.laws.specs.Width.{IsWidth, half, low}
 use Rattle.laws.specs.Number.{number, start}
 use Rattle.laws.specs.Index.{index}
 use Rattle.laws.proofs.Width.{sizes, sign-low, sign-of-low, sign-set, sign-canonical}
 use Rattle.laws.proofs.Index.{index-low}
+use Rattle.laws.proofs.Number.{number-start, number-lt}
 use Rattle.mapping.specs.Pages.{PageState}
 use Rattle.mapping.specs.Walk.{entryIndex, spaceOf}
 use Rattle.mapping.specs.PageNumbers.{SameIndices, PageNumbers}
-
--- the quotient by a larger span
-wider : (x l k : ℕ) → 1 ≤ l → l ≤ k → x / 2 ^ (9 * (k - 1)) ≡ x / 2 ^ (9 * (l - 1)) / 2 ^ (9 * (k - l))
-wider x l k p h =
-    let q : 9 * (k - 1) ≡ 9 * (l - 1) + 9 * (k - l) = omega arith in
-    rw q (sym (shr-shr x (9 * (l - 1)) (9 * (k - l))))
+use Rattle.mapping.proofs.Walk.{wider, same-above}
 
 module _ (w levels : ℕ) (v : IsWidth w) (e : w ≡ 9 * levels + 12) where
   -- the page that starts where page n does
@@ -25,10 +21,10 @@ module _ (w levels : ℕ) (v : IsWidth w) (e : w ≡ 9 * levels + 12) where
   number-of n = ap (λ (x : ℕ). x / 4096) (sign-low w v (n * 4096)) ∙ rw e (field (n * 4096) (9 * levels) 12 ∙ ap (λ (x : ℕ). x % 2 ^ (9 * levels)) (shl-shr n 12))
 
   pub number-back : (n : ℕ) → n < 2 ^ (9 * levels) → number w 4096 (start w 4096 n) ≡ n
-  number-back n h = number-of n ∙ mod-eq-of-lt h
+  number-back n h = let z : w - 12 ≡ 9 * levels = omega arith in number-start w 12 v (v .above) n (rw z h)
 
   number-inside : (a : ℕ) → number w 4096 a < 2 ^ (9 * levels)
-  number-inside a = rw (e, field a (9 * levels) 12) (mod-lt (a / 4096) (pow-pos (9 * levels)))
+  number-inside a = let z : w - 12 ≡ 9 * levels = omega arith in rw z at (number-lt w 12 v (v .above) a)
 
   index-of : (a l : ℕ) → 1 ≤ l → l ≤ levels → entryIndex (l - 1) (number w 4096 a) ≡ index l a
   index-of a l p h =
@@ -42,7 +38,7 @@ module _ (w levels : ℕ) (v : IsWidth w) (e : w ≡ 9 * levels + 12) where
     same-indices : (l : ℕ) → 1 ≤ l → x / 2 ^ (9 * (l - 1)) ≡ y / 2 ^ (9 * (l - 1)) → SameIndices w levels l x y
     same-indices l p q k g h =
         page-index x k i (omega arith) h
-        ∙ ap (λ (n : ℕ). n % 512) (wider x l k p g ∙ ap (λ (n : ℕ). n / 2 ^ (9 * (k - l))) q ∙ sym (wider y l k p g))
+        ∙ ap (λ (n : ℕ). n % 512) (same-above (l - 1) (k - 1) y x (omega arith) q)
         ∙ sym (page-index y k j (omega arith) h)
 
     -- from the highest level down
@@ -52,9 +48,9 @@ module _ (w levels : ℕ) (v : IsWidth w) (e : w ≡ 9 * levels + 12) where
         rw z (div-eq-of-lt i ∙ sym (div-eq-of-lt j))
     same-span (suc d) l q p s =
         let t = same-span d (suc l) (omega arith) (omega arith) (λ k g h. s k (omega arith) h) in
-        let a = wider x l (suc l) p (omega arith) in
-        let b = wider y l (suc l) p (omega arith) in
-        let o : suc l - l ≡ 1 = omega arith in
+        let a = wider (l - 1) (suc l - 1) x (omega arith) in
+        let b = wider (l - 1) (suc l - 1) y (omega arith) in
+        let o : suc l - 1 - (l - 1) ≡ 1 = omega arith in
         let c : x / 2 ^ (9 * (l - 1)) / 512 ≡ y / 2 ^ (9 * (l - 1)) / 512 = rw o at (sym a ∙ t ∙ b) in
         let m : x / 2 ^ (9 * (l - 1)) % 512 ≡ y / 2 ^ (9 * (l - 1)) % 512
         = sym (page-index x l i p (omega arith)) ∙ s l (omega arith) (omega arith) ∙ page-index y l j p (omega arith) in

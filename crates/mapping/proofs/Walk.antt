@@ -4,8 +4,9 @@ use mathlib.Core.Path.{_≡_, refl, sym, ap, _∙_}
 use mathlib.Core.List.{List}
 use mathlib.Core.Option.{Option, none, some}
 use native.Mathlib.Omega.{arith}
-use lib.Pow.{pow-pos, pow-mono, pow-add, shr-shr, field, mod-mod-pow}
+use lib.Pow.{pow-pos, pow-mono, shr-shr, field, mod-mod-pow}
 use lib.ListN.{getD}
+use Rattle.laws.proofs.Align.{blocks}
 use Rattle.mapping.specs.Pages.{Rights, Reason, reserved, outside, Spanned}
 use Rattle.mapping.specs.Pages as page
 use Rattle.mapping.specs.Walk.{Entry, notPresent, reservedBit, maps, table, Walked, absent, broken, mapped, joined, allRights, spanPages, entryIndex, wordFor, follow, step, walk, stateOf, walkedPages}
@@ -14,12 +15,13 @@ use Rattle.mapping.specs.Walk.{Entry, notPresent, reservedBit, maps, tab
 abbrev pub entryOf : (entry : ℕ → ℕ → Entry) (n : ℕ) (t : List ℕ) (x : ℕ) → Entry
 entryOf entry n t x = entry (n + 1) (wordFor t n x)
 
+-- the quotient by a larger span
+pub wider : (l n x : ℕ) → l ≤ n → x / spanPages n ≡ x / spanPages l / spanPages (n - l)
+wider l n x h = ap (λ (k : ℕ). x / 2 ^ k) (omega arith) ∙ sym (shr-shr x (9 * l) (9 * (n - l)))
+
 -- pages under one entry are under one entry at each level above
-same-above : (l n x y : ℕ) → l ≤ n → y / spanPages l ≡ x / spanPages l → y / spanPages n ≡ x / spanPages n
-same-above l n x y b d = shift y ∙ ap (λ (k : ℕ). k / 2 ^ (9 * (n - l))) d ∙ sym (shift x)
-  where
-    shift : (z : ℕ) → z / 2 ^ (9 * n) ≡ z / 2 ^ (9 * l) / 2 ^ (9 * (n - l))
-    shift z = ap (λ (k : ℕ). z / 2 ^ k) (omega arith) ∙ sym (shr-shr z (9 * l) (9 * (n - l)))
+pub same-above : (l n x y : ℕ) → l ≤ n → y / spanPages l ≡ x / spanPages l → y / spanPages n ≡ x / spanPages n
+same-above l n x y b d = wider l n y b ∙ ap (λ (k : ℕ). k / spanPages (n - l)) d ∙ sym (wider l n x b)
 
 absent-broken : {a : Walked} {k l : ℕ} {c : Reason} → a ≡ absent k → a ≡ broken l c → ⊥
 absent-broken e z = let n : _≡_ {A = ℕ} 0 1 = cc in omega arith
@@ -34,7 +36,7 @@ state-broken (mapped g k h) l c e = cc
 
 -- a smaller power of two divides a larger one
 whole : (i j : ℕ) → i ≤ j → (k : ℕ) × (2 ^ j ≡ k * 2 ^ i)
-whole i j h = (2 ^ (j - i), ap (λ (k : ℕ). 2 ^ k) (omega arith) ∙ pow-add 2 (j - i) i)
+whole i j h = (2 ^ (j - i), sym (blocks i j h))
 
 module _ (entry : ℕ → ℕ → Entry) (memory : ℕ → Option (List ℕ)) where
   -- a page y under the entry of level n + 1 that page x is under

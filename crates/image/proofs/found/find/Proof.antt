@@ -1,5 +1,4 @@
 -- `find` tells the first run or stop from a page on.
-use Prim.Native.Nat.{}
 use mathlib.Core.Path.{sym, ap, _∙_}
 use native.Mathlib.Omega.{arith}
 use borrow.Author.Needs.{needs}
