@@ -64,7 +64,7 @@ fn past(start: u64, size: PageSize, n: u64, top: u64) -> bool
 }
 
 // The item one place below, not below 0.
-fn lowered(start: u64, size: PageSize) -> u64
+pub(crate) fn lowered(start: u64, size: PageSize) -> u64
     ensures { λ r. ⌜ r ≡ start - bytesOf size ⌝ }
 {
     let bytes = size.bytes();

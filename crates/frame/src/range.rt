@@ -6,15 +6,20 @@ use crate::frame::PhysFrame;
 use crate::frame::frames_refusal;
 use answer::BoolAnswer;
 use answer::U64Answer;
+use draw::Draw;
 use draw::back_below;
 use draw::front_below;
 use draw::len_below;
+use draw::next_back_below;
+use draw::next_below;
 ghost use mathlib.Core.Path.{_≡_};
 ghost use Rattle.answer.specs.Answers.{u64Of, boolOf};
+ghost use Rattle.laws.specs.Kind.{drawn as Kind·drawn};
 ghost use Rattle.addr.specs.Address.{phys};
 ghost use Rattle.addr.specs.Range.{makeRange, emptyBelow, countBelow, bytesBelow};
+ghost use Rattle.draw.specs.Draws.{drawOf};
 ghost use Rattle.frame.specs.Frame.{start, start as Frame·start, bytes};
-ghost use Rattle.frame.specs.Range.{rangeOf, nthOf, nthBackOf};
+ghost use Rattle.frame.specs.Range.{rangeOf, frames, drawnBelow, nthOf, nthBackOf};
 
 pub struct PhysFrameRange {
     pub start: PhysFrame,
@@ -45,6 +50,22 @@ impl PhysFrame {
     }
 }
 
+// What a draw on the numbers of a range comes to.
+fn drawn(start: PhysFrame, end: PhysFrame, d: Draw) -> FrameDraw
+    ensures { λ r. ⌜ r ≡ Kind·drawn frames drawnBelow start end 0 (drawOf d) ⌝ }
+{
+    let size = start.size;
+    let item = d.item;
+    let end_size = end.size;
+    FrameDraw {
+        answer: frame_answer(size, item),
+        range: PhysFrameRange {
+            start: frame_at(size, d.start),
+            end: frame_at(end_size, d.end),
+        },
+    }
+}
+
 // The frame n places from the front, and the range from just past it.
 pub fn draw_nth(range: PhysFrameRange, n: u64) -> FrameDraw
     ensures { λ d. ⌜ d ≡ nthOf range n ⌝ }
@@ -60,22 +81,25 @@ pub fn draw_nth(range: PhysFrameRange, n: u64) -> FrameDraw
     }
     let size = start.size;
     let d = front_below(start.start_address.0, end.start_address.0, size, n);
-    let item = d.item;
-    let end_size = end.size;
-    FrameDraw {
-        answer: frame_answer(size, item),
-        range: PhysFrameRange {
-            start: frame_at(size, d.start),
-            end: frame_at(end_size, d.end),
-        },
-    }
+    drawn(start, end, d)
 }
 
-// The same with n = 0.
+// The first frame, and the range from just past it.
 pub fn draw_next(range: PhysFrameRange) -> FrameDraw
     ensures { λ d. ⌜ d ≡ nthOf range 0 ⌝ }
 {
-    draw_nth(range, 0)
+    let start = range.start;
+    let end = range.end;
+    let refused = frames_refusal(start, end);
+    if refused != 0 {
+        return FrameDraw {
+            answer: FrameAnswer::Refused(refused),
+            range,
+        };
+    }
+    let size = start.size;
+    let d = next_below(start.start_address.0, end.start_address.0, size);
+    drawn(start, end, d)
 }
 
 // The frame n places from the back, and the range up to it.
@@ -93,22 +117,25 @@ pub fn draw_nth_back(range: PhysFrameRange, n: u64) -> FrameDraw
     }
     let size = start.size;
     let d = back_below(start.start_address.0, end.start_address.0, size, n);
-    let item = d.item;
-    let end_size = end.size;
-    FrameDraw {
-        answer: frame_answer(size, item),
-        range: PhysFrameRange {
-            start: frame_at(size, d.start),
-            end: frame_at(end_size, d.end),
-        },
-    }
+    drawn(start, end, d)
 }
 
-// The same with n = 0.
+// The last frame, and the range up to it.
 pub fn draw_next_back(range: PhysFrameRange) -> FrameDraw
     ensures { λ d. ⌜ d ≡ nthBackOf range 0 ⌝ }
 {
-    draw_nth_back(range, 0)
+    let start = range.start;
+    let end = range.end;
+    let refused = frames_refusal(start, end);
+    if refused != 0 {
+        return FrameDraw {
+            answer: FrameAnswer::Refused(refused),
+            range,
+        };
+    }
+    let size = start.size;
+    let d = next_back_below(start.start_address.0, end.start_address.0, size);
+    drawn(start, end, d)
 }
 
 impl PhysFrameRange {
@@ -158,7 +185,7 @@ impl PhysFrameRange {
     pub fn next(&mut self) -> FrameAnswer
         ensures { λ a. ⌜ (a ≡ nthOf (now (self .entry)) 0 .answer) × (now (self .exit) ≡ nthOf (now (self .entry)) 0 .range) ⌝ }
     {
-        let d = draw_nth(*self, 0);
+        let d = draw_next(*self);
         *self = d.range;
         d.answer
     }
@@ -176,7 +203,7 @@ impl PhysFrameRange {
     pub fn next_back(&mut self) -> FrameAnswer
         ensures { λ a. ⌜ (a ≡ nthBackOf (now (self .entry)) 0 .answer) × (now (self .exit) ≡ nthBackOf (now (self .entry)) 0 .range) ⌝ }
     {
-        let d = draw_nth_back(*self, 0);
+        let d = draw_next_back(*self);
         *self = d.range;
         d.answer
     }

@@ -7,15 +7,20 @@ use crate::frame::PhysFrame;
 use crate::frame::frames_refusal;
 use answer::BoolAnswer;
 use answer::U64Answer;
+use draw::Draw;
 use draw::back_through;
 use draw::front_through;
 use draw::len_through;
+use draw::next_back_through;
+use draw::next_through;
 ghost use mathlib.Core.Path.{_≡_};
 ghost use Rattle.answer.specs.Answers.{u64Of, boolOf};
+ghost use Rattle.laws.specs.Kind.{drawn as Kind·drawn};
 ghost use Rattle.addr.specs.Address.{phys};
 ghost use Rattle.addr.specs.Range.{makeRange, emptyThrough, countThrough, bytesThrough};
+ghost use Rattle.draw.specs.Draws.{drawOf};
 ghost use Rattle.frame.specs.Frame.{start, start as Frame·start, bytes};
-ghost use Rattle.frame.specs.Range.{rangeInclusiveOf, nthInclusiveOf, nthBackInclusiveOf};
+ghost use Rattle.frame.specs.Range.{rangeInclusiveOf, frames, drawnThrough, nthInclusiveOf, nthBackInclusiveOf};
 
 pub struct PhysFrameRangeInclusive {
     pub start: PhysFrame,
@@ -46,6 +51,22 @@ impl PhysFrame {
     }
 }
 
+// What a draw on the numbers of a range comes to.
+fn drawn(start: PhysFrame, end: PhysFrame, d: Draw) -> FrameDrawInclusive
+    ensures { λ r. ⌜ r ≡ Kind·drawn frames drawnThrough start end 0 (drawOf d) ⌝ }
+{
+    let size = start.size;
+    let item = d.item;
+    let end_size = end.size;
+    FrameDrawInclusive {
+        answer: frame_answer(size, item),
+        range: PhysFrameRangeInclusive {
+            start: frame_at(size, d.start),
+            end: frame_at(end_size, d.end),
+        },
+    }
+}
+
 // The frame n places from the front, and the range from just past it.
 pub fn draw_nth_inclusive(range: PhysFrameRangeInclusive, n: u64) -> FrameDrawInclusive
     ensures { λ d. ⌜ d ≡ nthInclusiveOf range n ⌝ }
@@ -67,22 +88,30 @@ pub fn draw_nth_inclusive(range: PhysFrameRangeInclusive, n: u64) -> FrameDrawIn
         top_frame(size),
         n,
     );
-    let item = d.item;
-    let end_size = end.size;
-    FrameDrawInclusive {
-        answer: frame_answer(size, item),
-        range: PhysFrameRangeInclusive {
-            start: frame_at(size, d.start),
-            end: frame_at(end_size, d.end),
-        },
-    }
+    drawn(start, end, d)
 }
 
-// The same with n = 0.
+// The first frame, and the range from just past it.
 pub fn draw_next_inclusive(range: PhysFrameRangeInclusive) -> FrameDrawInclusive
     ensures { λ d. ⌜ d ≡ nthInclusiveOf range 0 ⌝ }
 {
-    draw_nth_inclusive(range, 0)
+    let start = range.start;
+    let end = range.end;
+    let refused = frames_refusal(start, end);
+    if refused != 0 {
+        return FrameDrawInclusive {
+            answer: FrameAnswer::Refused(refused),
+            range,
+        };
+    }
+    let size = start.size;
+    let d = next_through(
+        start.start_address.0,
+        end.start_address.0,
+        size,
+        top_frame(size),
+    );
+    drawn(start, end, d)
 }
 
 // The frame n places from the back, and the range up to it.
@@ -100,22 +129,25 @@ pub fn draw_nth_back_inclusive(range: PhysFrameRangeInclusive, n: u64) -> FrameD
     }
     let size = start.size;
     let d = back_through(start.start_address.0, end.start_address.0, size, n);
-    let item = d.item;
-    let end_size = end.size;
-    FrameDrawInclusive {
-        answer: frame_answer(size, item),
-        range: PhysFrameRangeInclusive {
-            start: frame_at(size, d.start),
-            end: frame_at(end_size, d.end),
-        },
-    }
+    drawn(start, end, d)
 }
 
-// The same with n = 0.
+// The last frame, and the range up to it.
 pub fn draw_next_back_inclusive(range: PhysFrameRangeInclusive) -> FrameDrawInclusive
     ensures { λ d. ⌜ d ≡ nthBackInclusiveOf range 0 ⌝ }
 {
-    draw_nth_back_inclusive(range, 0)
+    let start = range.start;
+    let end = range.end;
+    let refused = frames_refusal(start, end);
+    if refused != 0 {
+        return FrameDrawInclusive {
+            answer: FrameAnswer::Refused(refused),
+            range,
+        };
+    }
+    let size = start.size;
+    let d = next_back_through(start.start_address.0, end.start_address.0, size);
+    drawn(start, end, d)
 }
 
 impl PhysFrameRangeInclusive {
@@ -167,7 +199,7 @@ impl PhysFrameRangeInclusive {
     pub fn next(&mut self) -> FrameAnswer
         ensures { λ a. ⌜ (a ≡ nthInclusiveOf (now (self .entry)) 0 .answer) × (now (self .exit) ≡ nthInclusiveOf (now (self .entry)) 0 .range) ⌝ }
     {
-        let d = draw_nth_inclusive(*self, 0);
+        let d = draw_next_inclusive(*self);
         *self = d.range;
         d.answer
     }
@@ -185,7 +217,7 @@ impl PhysFrameRangeInclusive {
     pub fn next_back(&mut self) -> FrameAnswer
         ensures { λ a. ⌜ (a ≡ nthBackInclusiveOf (now (self .entry)) 0 .answer) × (now (self .exit) ≡ nthBackInclusiveOf (now (self .entry)) 0 .range) ⌝ }
     {
-        let d = draw_nth_back_inclusive(*self, 0);
+        let d = draw_next_back_inclusive(*self);
         *self = d.range;
         d.answer
     }

@@ -13,6 +13,7 @@ pub mod Left
 pub mod After
 pub mod PagesLeft
 pub mod Kept
+pub mod Next
 pub mod Drawing
 pub mod OneByOne
 pub mod Kind

@@ -8,13 +8,12 @@ use native.Mathlib.Omega.{arith}
 use native.Mathlib.Nat.{mod-eq-of-lt}
 use borrow.Author.Tests.{eq-eqb}
 use lib.ListN.{getElem?, drop}
-use lib.Pow.{pow-mono}
 use Rattle.answer.specs.Refusal.{drawMeetsGap}
 use Rattle.laws.specs.Width.{half, firstHigh}
 use Rattle.laws.specs.Run.{lenBelow, lenThrough, below, through, pagesBelow, pagesThrough}
 use Rattle.laws.specs.Draw as draw
 use Rattle.laws.specs.Drawing.{Side, front, back, Drawn, EachOnce, OneByOne}
-use Rattle.laws.proofs.Width.{sizes, canonical-halves}
+use Rattle.laws.proofs.Width.{canonical-halves}
 use Rattle.laws.proofs.Align.{top-whole}
 use Rattle.laws.proofs.Run.{below-none, through-none}
 use Rattle.laws.proofs.Draw.{front-below-start, front-through-start, front-through-end, back-through-start, back-through-end}
@@ -38,6 +37,7 @@ use Rattle.page.specs.declared.page.Page.{Page}
 use Rattle.page.specs.declared.range.PageRange.{PageRange}
 use Rattle.page.specs.declared.range_inclusive.PageRangeInclusive.{PageRangeInclusive}
 use Rattle.page.proofs.Ranges as ranges
+use Rattle.page.proofs.Ranges.{two-fit, top-high}
 
 answer-gives : (z : PageSize) (i : Option ℕ) → itemIn (pageAnswer z i) ≡ some i
 unfolding pageAnswer
@@ -104,13 +104,6 @@ module _ (v : Width) (x y : Page) (e : refusal (widthOf v) x y ≡ 0) where
   top-multiple : topPage (bytes x) % bytes x ≡ 0
   top-multiple = top-whole (powerOf (x .size)) 64 (omega (arith, bounds (x .size)))
 
-  -- two pages fit into a half
-  two-fit : bytes x + bytes x ≤ half w
-  two-fit = omega (arith, ranges.accepted v x y e .small, pow-mono {i = 47} {j = w - 1} (omega (arith, ranges.wide v)))
-
-  top-high : firstHigh w + bytes x ≤ topPage (bytes x)
-  top-high = omega (arith, two-fit, sizes w (widths v))
-
   front-pages : draw.gapFrontBelow w (start x) (start y) (bytes x) 0 ≡ false → Pages w (bytes x) (onFront (bytes x) (start x) (start y) 0)
   front-pages g =
       let a = ranges.accepted v x y e in
@@ -141,7 +134,7 @@ module _ (v : Width) (x y : Page) (e : refusal (widthOf v) x y ≡ 0) where
       let p = a .ends .some in
       let s = front-through-start l (start x) (start y) (bytes x) 0 top (omega arith) (omega arith) (omega arith) in
       let t = front-through-end l (start x) (start y) (bytes x) 0 top (omega arith) (omega arith) (omega arith) in
-      let h = kept.front-through-half w (bytes x) (start x) (start y) (a .ends) l top (omega arith) (omega arith) top-high g in
+      let h = kept.front-through-half w (bytes x) (start x) (start y) (a .ends) l top (omega arith) (omega arith) (top-high v x y e) g in
       record {
         start-below = omega arith;
         end-below = omega arith;
@@ -159,7 +152,7 @@ module _ (v : Width) (x y : Page) (e : refusal (widthOf v) x y ≡ 0) where
       let z : start x < bytes x → start x ≡ 0 = λ h. omega (arith, mod-eq-of-lt h, a .whole) in
       let s = back-through-start l (start x) (start y) (bytes x) 0 top (omega arith) (omega arith) (omega arith) z in
       let t = back-through-end l (start x) (start y) (bytes x) 0 top (omega arith) (omega arith) (omega arith) in
-      let h = kept.back-through-half w (bytes x) (start x) (start y) (a .ends) l top (omega arith) (omega arith) top-high two-fit g in
+      let h = kept.back-through-half w (bytes x) (start x) (start y) (a .ends) l top (omega arith) (omega arith) (top-high v x y e) (two-fit v x y e) g in
       record {
         start-below = omega arith;
         end-below = omega arith;

@@ -1,5 +1,6 @@
 pub mod Steps
 pub mod Assembled
 pub mod Ranges
+pub mod Next
 pub mod Left
 pub mod Drawn

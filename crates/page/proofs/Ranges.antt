@@ -10,13 +10,13 @@ use native.Mathlib.Nat.{zero-mul, add-mul}
 use borrow.Author.Tests.{eqb-true, eq-eqb, ne-eqb, lt-ltb, le-ltb}
 use lib.Dec.{lit<, eqb}
 use lib.Pow.{pow-mono}
-use Rattle.laws.specs.Width.{half, signExtend}
+use Rattle.laws.specs.Width.{half, firstHigh, signExtend}
 use Rattle.answer.specs.Outcome.{Outcome, gives, refuses, unless}
 use Rattle.answer.specs.Refusal.{overflow}
 use Rattle.laws.specs.Run.{below, through, lenThrough, pagesBelow, pagesThrough}
 use Rattle.laws.proofs.Cases.{by-cases}
 use Rattle.laws.specs.Draw as draw
-use Rattle.laws.proofs.Width.{sign-lt}
+use Rattle.laws.proofs.Width.{sizes, sign-lt}
 use Rattle.laws.proofs.Kind.{drawn-refused}
 use Rattle.laws.proofs.Align.{under-top}
 use Rattle.laws.proofs.Gap.{PageEnds, page-ends, front-below, back-below, front-through, back-through}
@@ -78,6 +78,14 @@ accepted v x y r =
       last-whole = zb;
       small = pow-mono {i = powerOf (x .size)} {j = 30} (omega arith);
     }
+
+-- two pages fit into a half, and one between the gap and the topmost
+module _ (v : Width) (x y : Page) (e : refusal (widthOf v) x y ≡ 0) where
+  pub two-fit : bytes x + bytes x ≤ half (widthOf v)
+  two-fit = omega (arith, accepted v x y e .small, pow-mono {i = 47} {j = widthOf v - 1} (omega (arith, wide v)))
+
+  pub top-high : firstHigh (widthOf v) + bytes x ≤ topPage (bytes x)
+  top-high = omega (arith, two-fit, sizes (widthOf v) (widths v))
 
 -- what a draw of a range from `x` to `y` that is not refused answers and leaves
 abbrev pub settled : {D : Type 0} → (PageAnswer → Page → Page → D) → Page → Page → draw.Draw → D

@@ -53,11 +53,11 @@ pub fn draw_nth(range: PageRange, n: u64) -> PageDraw
     width_draws::draw_nth(Width::Bits48, range, n)
 }
 
-// The same with n = 0.
+// The first page, and the range from just past it.
 pub fn draw_next(range: PageRange) -> PageDraw
     ensures { λ d. ⌜ d ≡ nthOf 48 range 0 ⌝ }
 {
-    width_draws::draw_nth(Width::Bits48, range, 0)
+    width_draws::draw_next(Width::Bits48, range)
 }
 
 // The page n places from the back, and the range up to it.
@@ -67,11 +67,11 @@ pub fn draw_nth_back(range: PageRange, n: u64) -> PageDraw
     width_draws::draw_nth_back(Width::Bits48, range, n)
 }
 
-// The same with n = 0.
+// The last page, and the range up to it.
 pub fn draw_next_back(range: PageRange) -> PageDraw
     ensures { λ d. ⌜ d ≡ nthBackOf 48 range 0 ⌝ }
 {
-    width_draws::draw_nth_back(Width::Bits48, range, 0)
+    width_draws::draw_next_back(Width::Bits48, range)
 }
 
 impl PageRange {
@@ -143,7 +143,7 @@ impl PageRange {
     pub fn next(&mut self) -> PageAnswer
         ensures { λ a. ⌜ (a ≡ nthOf 48 (now (self .entry)) 0 .answer) × (now (self .exit) ≡ nthOf 48 (now (self .entry)) 0 .range) ⌝ }
     {
-        let d = draw_nth(*self, 0);
+        let d = draw_next(*self);
         *self = d.range;
         d.answer
     }
@@ -161,7 +161,7 @@ impl PageRange {
     pub fn next_back(&mut self) -> PageAnswer
         ensures { λ a. ⌜ (a ≡ nthBackOf 48 (now (self .entry)) 0 .answer) × (now (self .exit) ≡ nthBackOf 48 (now (self .entry)) 0 .range) ⌝ }
     {
-        let d = draw_nth_back(*self, 0);
+        let d = draw_next_back(*self);
         *self = d.range;
         d.answer
     }

@@ -52,11 +52,11 @@ pub fn draw_nth_inclusive(range: PageRangeInclusive, n: u64) -> PageDrawInclusiv
     width_draws::draw_nth_inclusive(Width::Bits48, range, n)
 }
 
-// The same with n = 0.
+// The first page, and the range from just past it.
 pub fn draw_next_inclusive(range: PageRangeInclusive) -> PageDrawInclusive
     ensures { λ d. ⌜ d ≡ nthInclusiveOf 48 range 0 ⌝ }
 {
-    width_draws::draw_nth_inclusive(Width::Bits48, range, 0)
+    width_draws::draw_next_inclusive(Width::Bits48, range)
 }
 
 // The page n places from the back, and the range up to it.
@@ -66,11 +66,11 @@ pub fn draw_nth_back_inclusive(range: PageRangeInclusive, n: u64) -> PageDrawInc
     width_draws::draw_nth_back_inclusive(Width::Bits48, range, n)
 }
 
-// The same with n = 0.
+// The last page, and the range up to it.
 pub fn draw_next_back_inclusive(range: PageRangeInclusive) -> PageDrawInclusive
     ensures { λ d. ⌜ d ≡ nthBackInclusiveOf 48 range 0 ⌝ }
 {
-    width_draws::draw_nth_back_inclusive(Width::Bits48, range, 0)
+    width_draws::draw_next_back_inclusive(Width::Bits48, range)
 }
 
 impl PageRangeInclusive {
@@ -129,7 +129,7 @@ impl PageRangeInclusive {
     pub fn next(&mut self) -> PageAnswer
         ensures { λ a. ⌜ (a ≡ nthInclusiveOf 48 (now (self .entry)) 0 .answer) × (now (self .exit) ≡ nthInclusiveOf 48 (now (self .entry)) 0 .range) ⌝ }
     {
-        let d = draw_nth_inclusive(*self, 0);
+        let d = draw_next_inclusive(*self);
         *self = d.range;
         d.answer
     }
@@ -147,7 +147,7 @@ impl PageRangeInclusive {
     pub fn next_back(&mut self) -> PageAnswer
         ensures { λ a. ⌜ (a ≡ nthBackInclusiveOf 48 (now (self .entry)) 0 .answer) × (now (self .exit) ≡ nthBackInclusiveOf 48 (now (self .entry)) 0 .range) ⌝ }
     {
-        let d = draw_nth_back_inclusive(*self, 0);
+        let d = draw_next_back_inclusive(*self);
         *self = d.range;
         d.answer
     }

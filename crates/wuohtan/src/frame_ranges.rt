@@ -11,6 +11,10 @@ use convention::give_frame_range;
 use convention::give_frame_range_inclusive;
 use convention::give_u64;
 use frame::PhysFrame;
+use frame::draw_next;
+use frame::draw_next_back;
+use frame::draw_next_back_inclusive;
+use frame::draw_next_inclusive;
 use frame::draw_nth;
 use frame::draw_nth_back;
 use frame::draw_nth_back_inclusive;
@@ -99,7 +103,10 @@ pub extern "C" fn wuohtan_phys_frame_range_next(
 ) -> u8
     ensures { λ r. ⌜ left r (now (out .exit)) ≡ leaves (ofSize «start_size» (ofSize «end_size» (frameDrawWords (nthOf (frameRangeAt start «start_size» end «end_size») 0)))) (now (out .entry)) ⌝ }
 {
-    wuohtan_phys_frame_range_nth(start, start_size, end, end_size, 0, out)
+    let FrameRangeChoice::Range(range) = choose_frame_range(start, start_size, end, end_size) else {
+        return NO_SUCH_CHOICE;
+    };
+    give_frame_draw(draw_next(range), out)
 }
 
 #[no_mangle]
@@ -129,7 +136,10 @@ pub extern "C" fn wuohtan_phys_frame_range_next_back(
 ) -> u8
     ensures { λ r. ⌜ left r (now (out .exit)) ≡ leaves (ofSize «start_size» (ofSize «end_size» (frameDrawWords (nthBackOf (frameRangeAt start «start_size» end «end_size») 0)))) (now (out .entry)) ⌝ }
 {
-    wuohtan_phys_frame_range_nth_back(start, start_size, end, end_size, 0, out)
+    let FrameRangeChoice::Range(range) = choose_frame_range(start, start_size, end, end_size) else {
+        return NO_SUCH_CHOICE;
+    };
+    give_frame_draw(draw_next_back(range), out)
 }
 
 #[no_mangle]
@@ -245,7 +255,15 @@ pub extern "C" fn wuohtan_phys_frame_range_inclusive_next(
 ) -> u8
     ensures { λ r. ⌜ left r (now (out .exit)) ≡ leaves (ofSize «start_size» (ofSize «end_size» (frameDrawInclusiveWords (nthInclusiveOf (frameRangeInclusiveAt start «start_size» end «end_size») 0)))) (now (out .entry)) ⌝ }
 {
-    wuohtan_phys_frame_range_inclusive_nth(start, start_size, end, end_size, 0, out)
+    let FrameRangeInclusiveChoice::Range(range) = choose_frame_range_inclusive(
+        start,
+        start_size,
+        end,
+        end_size,
+    ) else {
+        return NO_SUCH_CHOICE;
+    };
+    give_frame_draw_inclusive(draw_next_inclusive(range), out)
 }
 
 #[no_mangle]
@@ -280,7 +298,15 @@ pub extern "C" fn wuohtan_phys_frame_range_inclusive_next_back(
 ) -> u8
     ensures { λ r. ⌜ left r (now (out .exit)) ≡ leaves (ofSize «start_size» (ofSize «end_size» (frameDrawInclusiveWords (nthBackInclusiveOf (frameRangeInclusiveAt start «start_size» end «end_size») 0)))) (now (out .entry)) ⌝ }
 {
-    wuohtan_phys_frame_range_inclusive_nth_back(start, start_size, end, end_size, 0, out)
+    let FrameRangeInclusiveChoice::Range(range) = choose_frame_range_inclusive(
+        start,
+        start_size,
+        end,
+        end_size,
+    ) else {
+        return NO_SUCH_CHOICE;
+    };
+    give_frame_draw_inclusive(draw_next_back_inclusive(range), out)
 }
 
 #[no_mangle]

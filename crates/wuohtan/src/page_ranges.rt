@@ -11,6 +11,10 @@ use convention::give_page_range;
 use convention::give_page_range_inclusive;
 use convention::give_u64;
 use page::Page;
+use page::draw_next;
+use page::draw_next_back;
+use page::draw_next_back_inclusive;
+use page::draw_next_inclusive;
 use page::draw_nth;
 use page::draw_nth_back;
 use page::draw_nth_back_inclusive;
@@ -99,7 +103,10 @@ pub extern "C" fn wuohtan_page_range_next(
 ) -> u8
     ensures { λ r. ⌜ left r (now (out .exit)) ≡ leaves (ofSize «start_size» (ofSize «end_size» (pageDrawWords (nthOf 48 (pageRangeAt start «start_size» end «end_size») 0)))) (now (out .entry)) ⌝ }
 {
-    wuohtan_page_range_nth(start, start_size, end, end_size, 0, out)
+    let PageRangeChoice::Range(range) = choose_page_range(start, start_size, end, end_size) else {
+        return NO_SUCH_CHOICE;
+    };
+    give_page_draw(draw_next(range), out)
 }
 
 #[no_mangle]
@@ -129,7 +136,10 @@ pub extern "C" fn wuohtan_page_range_next_back(
 ) -> u8
     ensures { λ r. ⌜ left r (now (out .exit)) ≡ leaves (ofSize «start_size» (ofSize «end_size» (pageDrawWords (nthBackOf 48 (pageRangeAt start «start_size» end «end_size») 0)))) (now (out .entry)) ⌝ }
 {
-    wuohtan_page_range_nth_back(start, start_size, end, end_size, 0, out)
+    let PageRangeChoice::Range(range) = choose_page_range(start, start_size, end, end_size) else {
+        return NO_SUCH_CHOICE;
+    };
+    give_page_draw(draw_next_back(range), out)
 }
 
 #[no_mangle]
@@ -261,7 +271,15 @@ pub extern "C" fn wuohtan_page_range_inclusive_next(
 ) -> u8
     ensures { λ r. ⌜ left r (now (out .exit)) ≡ leaves (ofSize «start_size» (ofSize «end_size» (pageDrawInclusiveWords (nthInclusiveOf 48 (pageRangeInclusiveAt start «start_size» end «end_size») 0)))) (now (out .entry)) ⌝ }
 {
-    wuohtan_page_range_inclusive_nth(start, start_size, end, end_size, 0, out)
+    let PageRangeInclusiveChoice::Range(range) = choose_page_range_inclusive(
+        start,
+        start_size,
+        end,
+        end_size,
+    ) else {
+        return NO_SUCH_CHOICE;
+    };
+    give_page_draw_inclusive(draw_next_inclusive(range), out)
 }
 
 #[no_mangle]
@@ -296,7 +314,15 @@ pub extern "C" fn wuohtan_page_range_inclusive_next_back(
 ) -> u8
     ensures { λ r. ⌜ left r (now (out .exit)) ≡ leaves (ofSize «start_size» (ofSize «end_size» (pageDrawInclusiveWords (nthBackInclusiveOf 48 (pageRangeInclusiveAt start «start_size» end «end_size») 0)))) (now (out .entry)) ⌝ }
 {
-    wuohtan_page_range_inclusive_nth_back(start, start_size, end, end_size, 0, out)
+    let PageRangeInclusiveChoice::Range(range) = choose_page_range_inclusive(
+        start,
+        start_size,
+        end,
+        end_size,
+    ) else {
+        return NO_SUCH_CHOICE;
+    };
+    give_page_draw_inclusive(draw_next_back_inclusive(range), out)
 }
 
 #[no_mangle]

@@ -12,15 +12,18 @@ pages-refusal-requires c κs = search needs
 
 returns : tie.Need-returns
 returns c =
+    let a = c .before .before .before .before .args in
     let e = c .before .pages-refusal .ensures in
-    rw e (nth-inclusive-refused (c .before .before .before .before .args .width) (c .before .before .before .before .args .range) (c .before .before .before .before .args .n) (λ z. c .if1 .taken (e ∙ z)))
+    rw e (nth-inclusive-refused (a .width) (a .range) (a .n) (λ z. c .if1 .taken (e ∙ z)))
 
 gap-front-through-requires : tie.Need-gap-front-through-requires
 gap-front-through-requires c κs = search needs
 
 returns-2 : tie.Need-returns-2
 returns-2 c =
-    nth-inclusive-gap (c .before .before .before .before .before .before .args .width) (c .before .before .before .before .before .before .args .range) (c .before .before .before .before .before .before .args .n) (sym (c .before .before .before .pages-refusal .ensures) ∙ c .before .before .if1 .left) (sym (c .before .gap-front-through .ensures) ∙ c .if2 .taken)
+    let a = c .before .before .before .before .before .before .args in
+    let p = sym (c .before .before .before .pages-refusal .ensures) ∙ c .before .before .if1 .left in
+    nth-inclusive-gap (a .width) (a .range) (a .n) p (sym (c .before .gap-front-through .ensures) ∙ c .if2 .taken)
 
 top-page-requires : tie.Need-top-page-requires
 top-page-requires c κs = search needs
@@ -28,25 +31,17 @@ top-page-requires c κs = search needs
 front-through-requires : tie.Need-front-through-requires
 front-through-requires c κs = search needs
 
-page-answer-requires : tie.Need-page-answer-requires
-page-answer-requires c κs = search needs
-
-page-at-requires : tie.Need-page-at-requires
-page-at-requires c κs = search needs
-
-page-at-requires-2 : tie.Need-page-at-requires-2
-page-at-requires-2 c κs = search needs
+drawn-inclusive-requires : tie.Need-drawn-inclusive-requires
+drawn-inclusive-requires c κs = search needs
 
 returns-3 : tie.Need-returns-3
 returns-3 c =
-    let r = c .before .before .before .before .before .before .before .before .before .before .before .args .range in
-    let v = c .before .before .before .before .before .before .before .before .before .before .before .args .width in
-    let p = sym (c .before .before .before .before .before .before .before .before .pages-refusal .ensures) ∙ c .before .before .before .before .before .before .before .if1 .left in
-    rw (
-      c .before .before .page-answer .ensures,
-      c .before .page-at .ensures,
-      c .page-at2 .ensures,
-    ) (ap (λ (d : draw.Draw). settled drawnThrough (r .start) (r .end) d) ((rw (c .before .before .before .before .top-page .ensures) at (c .before .before .before .front-through .ensures))) ∙ nth-inclusive-settled v r (c .before .before .before .before .before .before .before .before .before .before .before .args .n) p (sym (c .before .before .before .before .before .before .gap-front-through .ensures) ∙ c .before .before .before .before .before .if2 .left))
+    let a = c .before .before .before .before .before .before .before .before .before .args in
+    let r = a .range in
+    let p = sym (c .before .before .before .before .before .before .pages-refusal .ensures) ∙ c .before .before .before .before .before .if1 .left in
+    c .drawn-inclusive .ensures
+    ∙ ap (λ (d : draw.Draw). settled drawnThrough (r .start) (r .end) d) (rw (c .before .before .top-page .ensures) at (c .before .front-through .ensures))
+    ∙ nth-inclusive-settled (a .width) r (a .n) p (sym (c .before .before .before .before .gap-front-through .ensures) ∙ c .before .before .before .if2 .left)
 
 pub draw-nth-inclusive-spec : {M : Type 1} → statement M
 draw-nth-inclusive-spec =
@@ -58,7 +53,5 @@ draw-nth-inclusive-spec =
     returns-2
     top-page-requires
     front-through-requires
-    page-answer-requires
-    page-at-requires
-    page-at-requires-2
+    drawn-inclusive-requires
     returns-3)

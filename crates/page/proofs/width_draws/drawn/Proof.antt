@@ -1,0 +1,19 @@
+-- `drawn` meets its contract.
+use borrow.Author.Needs.{needs}
+use Rattle.page.proofs.width_draws.drawn.Statement.{statement}
+use Rattle.page.proofs.width_draws.drawn.Tie as tie
+
+page-answer-requires : tie.Need-page-answer-requires
+page-answer-requires c κs = search needs
+
+page-at-requires : tie.Need-page-at-requires
+page-at-requires c κs = search needs
+
+page-at-requires-2 : tie.Need-page-at-requires-2
+page-at-requires-2 c κs = search needs
+
+returns : tie.Need-returns
+returns c = rw (c .before .before .page-answer .ensures, c .before .page-at .ensures, c .page-at2 .ensures)
+
+pub drawn-spec : {M : Type 1} → statement M
+drawn-spec = tie.close (tie.spec page-answer-requires page-at-requires page-at-requires-2 returns)
