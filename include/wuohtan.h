@@ -233,9 +233,16 @@ uint8_t wuohtan_search(const uint64_t *image, size_t words, uint64_t base, uint6
 /* The answers of the searches from a page on, each from the page that the one before it left, as many as have room in
  * answers[0..room], five words each as above. out has three words: how many answers were written; 1 if the search is
  * over; the next page, or 0. WUOHTAN_NO_ROOM says that out is too short for these: nothing was asked. Unless the status
- * is WUOHTAN_ANSWERED, answers is left as it was; if it is, so is the part of it behind the answers. */
+ * is WUOHTAN_ANSWERED, answers is left as it was; if it is, so is the part of it behind the answers.
+ *
+ * empty_tables[0..tables] is where the call remembers which tables hold nothing, so that shared ones are read once: a
+ * byte for each 512 words of the image, in it bit level - 1 for each level. One for each table, words / 512, is enough;
+ * any number is taken, also none, but then an image of four tables can make the call read 2^36 entries. What stands
+ * there before does not matter. Afterwards a set bit says that these 512 words, as a table of that level, hold nothing;
+ * unless the status is WUOHTAN_ANSWERED the bytes are left as they were. */
 uint8_t wuohtan_list(const uint64_t *image, size_t words, uint64_t base, uint64_t root, uint64_t page,
-                     uint64_t *answers, size_t room, uint64_t *out, size_t len);
+                     uint8_t *empty_tables, size_t tables, uint64_t *answers, size_t room, uint64_t *out,
+                     size_t len);
 
 #ifdef __cplusplus
 }

@@ -10,7 +10,7 @@
 
 #include "wuohtan.h"
 
-enum { KIB4 = 4096, MIB2 = 1 << 21, BELOW = 64, WORDS = 2048, BASE = 0x1000 };
+enum { KIB4 = 4096, MIB2 = 1 << 21, BELOW = 64, WORDS = 2048, TABLES = WORDS / 512, BASE = 0x1000 };
 
 void trap_on(void);
 void trap_off(void);
@@ -52,6 +52,7 @@ static int is(uint8_t status, const uint64_t *out, uint64_t a, uint64_t b, uint6
 /* Whether all answers are right: of functions that use much of the stack, and of some that store much. */
 static int all_right(void) {
     uint64_t out[5], answers[10];
+    uint8_t empty_tables[TABLES + 1] = {0xff, 0xff, 0xff, 0xff, 0xff};
     int right = 1;
     out[1] = out[2] = out[3] = 0;
     right &= is(wuohtan_virt_addr_page_table_index(0xffff800000000000, 4, out, 5), out, 256, 0, 0, 0);
@@ -66,8 +67,12 @@ static int all_right(void) {
     /* Case L of document 01: a 2 MiB page and a 4 KiB page after it are one run. */
     right &= is(wuohtan_translate(image, WORDS, BASE, BASE, 0x200123, out, 5), out, 0, 0x600123, KIB4, 1);
     right &= is(wuohtan_search(image, WORDS, BASE, BASE, 0, out, 5), out, 1, 0, 0x400000, 513) && out[4] == 1;
-    right &= wuohtan_list(image, WORDS, BASE, BASE, 0, answers, 10, out, 5) == WUOHTAN_ANSWERED && out[0] == 2 && out[1] == 1;
+    right &= wuohtan_list(image, WORDS, BASE, BASE, 0, empty_tables, TABLES, answers, 10, out, 5) == WUOHTAN_ANSWERED;
+    right &= out[0] == 2 && out[1] == 1;
     right &= is(WUOHTAN_ANSWERED, answers, 1, 0, 0x400000, 513) && answers[4] == 1 && answers[5] == 0;
+    /* None of the tables holds nothing, and the byte behind them was not lent. */
+    for (int i = 0; i <= TABLES; i++)
+        right &= empty_tables[i] == (i < TABLES ? 0 : 0xff);
     return right;
 }
 

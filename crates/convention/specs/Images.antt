@@ -1,5 +1,6 @@
 -- Translation and the run search in the convention.
-use Prim.Native.Nat.{ℕ}
+use Prim.Native.Nat.{ℕ, _≤_, _<_}
+use mathlib.Core.Path.{_≡_}
 use mathlib.Core.Bool.{cond}
 use mathlib.Core.List.{List, [], _∷_}
 use mathlib.Core.Option.{Option, none, some}
@@ -9,7 +10,7 @@ use Rattle.answer.specs.Outcome.{Outcome}
 use Rattle.addr.specs.Item.{Item}
 use Rattle.image.specs.Translate.{Translated, translatedWords}
 use Rattle.image.specs.Search.{Report, reportWords}
-use Rattle.image.specs.List.{Listed, Listing}
+use Rattle.image.specs.List.{Listed, Listing, Remembered}
 use Rattle.convention.specs.Status.{noRoom}
 use Rattle.convention.specs.Convention.{Left, left, leaves, inWords}
 
@@ -43,3 +44,8 @@ listedLength = 3
 unfoldable pub leavesList : Listing → (answers out : List ℕ) → LeftList
 leavesList l answers out =
     cond (leb listedLength (length out)) (record { answers = l .words; rest = leaves (listed (l .answer)) out }) (leftList answers noRoom out)
+
+-- the bytes that are lent for the memory of empty tables: as they were where nothing was asked
+pub record LeftBytes (w : ℕ) (image : List ℕ) (base root a : ℕ) (out before after : List ℕ) : Type 0 where
+  pub not-asked : length out < listedLength → after ≡ before
+  pub asked : listedLength ≤ length out → Remembered w image base root a before after

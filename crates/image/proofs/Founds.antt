@@ -2,13 +2,13 @@
 use Prim.Native.Nat.{ℕ, _+_, _-_, _^_, _≤_, _<_}
 use mathlib.Core.Path.{_≡_, refl, sym, ap, _∙_, subst}
 use native.Mathlib.Omega.{arith}
-use mathlib.Core.List.{List}
-use Rattle.mapping.specs.Pages.{Rights, reserved, outside, Space}
+use Rattle.mapping.specs.Pages.{Rights, reserved, outside, PageState, Space}
 use Rattle.mapping.specs.Search.{Answer, end, stop, run, next}
+use Rattle.mapping.specs.Walk.{spanPages, spaceOf}
 use Rattle.answer.specs.Outcome.{gives}
 use Rattle.image.specs.Packed.{rightsBits, rightsFrom}
 use Rattle.image.specs.Span.{after}
-use Rattle.image.specs.Search.{report, pageItem, frameItem, imagePages}
+use Rattle.image.specs.Search.{report, pageItem, frameItem}
 use Rattle.image.specs.Search as reports
 use Rattle.image.specs.Found.{foundOf, Kept, OfAnswer}
 use Rattle.image.specs.declared.found.Found.{Found}
@@ -29,64 +29,64 @@ kinds f (stop q l reserved) e = subst (λ (k : Found). Kinds k (stop q l reserve
 kinds f (stop q l outside) e = subst (λ (k : Found). Kinds k (stop q l outside)) (sym e) (stopped-outside refl)
 
 -- the page that it leaves, by its kind
-module _ (f : Found) (image : List ℕ) (base : ℕ) (t : List ℕ) (a : Answer) (e : f ≡ foundOf a) where
-  abbrev pages : Space
-  pages = imagePages 4 image base t
+module _ (f : Found) (levels : ℕ) (page : ℕ → PageState) (a : Answer) (e : f ≡ foundOf a) where
+  abbrev space : Space
+  space = spaceOf levels page
 
-  pub after-end : f .kind ≡ 0 → 2 ^ 36 ≡ next pages a
+  pub after-end : f .kind ≡ 0 → spanPages levels ≡ next space a
   unfolding next
   after-end k = go (kinds f a e)
     where
-      go : {b : Answer} → Kinds f b → 2 ^ 36 ≡ next pages b
+      go : {b : Answer} → Kinds f b → spanPages levels ≡ next space b
       go (ended z y) = refl
       go (ran h z r) = absurd (omega arith)
       go (stopped-reserved z) = absurd (omega arith)
       go (stopped-outside z) = absurd (omega arith)
 
-  pub after-run : f .kind ≡ 1 → f .page + f .count ≡ next pages a
+  pub after-run : f .kind ≡ 1 → f .page + f .count ≡ next space a
   unfolding next
   after-run k = go (kinds f a e)
     where
-      go : {b : Answer} → Kinds f b → f .page + f .count ≡ next pages b
+      go : {b : Answer} → Kinds f b → f .page + f .count ≡ next space b
       go (ended z y) = absurd (omega arith)
       go (ran h z r) = refl
       go (stopped-reserved z) = absurd (omega arith)
       go (stopped-outside z) = absurd (omega arith)
 
-  pub after-stop : (f .kind ≡ 0 → ⊥) → (f .kind ≡ 1 → ⊥) → after (f .place - 1) (f .page) ≡ next pages a
+  pub after-stop : (f .kind ≡ 0 → ⊥) → (f .kind ≡ 1 → ⊥) → after (f .place - 1) (f .page) ≡ next space a
   unfolding next after
   after-stop n m = go (kinds f a e)
     where
-      go : {b : Answer} → Kinds f b → after (f .place - 1) (f .page) ≡ next pages b
+      go : {b : Answer} → Kinds f b → after (f .place - 1) (f .page) ≡ next space b
       go (ended z y) = absurd (n z)
       go (ran h z r) = absurd (m z)
       go (stopped-reserved z) = refl
       go (stopped-outside z) = refl
 
 -- the bounds of its numbers, by its kind
-module _ (f : Found) (p : OfAnswer f) where
-  pub run-bounds : f .kind ≡ 1 → (f .page < 2 ^ 36) × (f .place < 2 ^ 40) × (f .page + f .count ≤ 2 ^ 36)
-  run-bounds k = go (kinds f (p .0) (p .2)) (p .1)
+module _ (f : Found) (pages : ℕ) (p : OfAnswer pages f) where
+  pub run-bounds : f .kind ≡ 1 → (f .page < pages) × (f .place < 2 ^ 40) × (f .page + f .count ≤ pages)
+  run-bounds k = go (kinds f (p .1 .0) (p .1 .2)) (p .1 .1)
     where
-      go : {b : Answer} → Kinds f b → Kept b → (f .page < 2 ^ 36) × (f .place < 2 ^ 40) × (f .page + f .count ≤ 2 ^ 36)
+      go : {b : Answer} → Kinds f b → Kept pages b → (f .page < pages) × (f .place < 2 ^ 40) × (f .page + f .count ≤ pages)
       go (ended z y) h = absurd (omega arith)
       go (ran r z s) h = h
       go (stopped-reserved z) h = absurd (omega arith)
       go (stopped-outside z) h = absurd (omega arith)
 
-  pub stop-bounds : (f .kind ≡ 0 → ⊥) → (f .kind ≡ 1 → ⊥) → (f .page < 2 ^ 36) × (1 ≤ f .place) × (f .place ≤ 4)
-  stop-bounds n m = go (kinds f (p .0) (p .2)) (p .1)
+  pub stop-bounds : (f .kind ≡ 0 → ⊥) → (f .kind ≡ 1 → ⊥) → (f .page < pages) × (1 ≤ f .place) × (f .place ≤ 5)
+  stop-bounds n m = go (kinds f (p .1 .0) (p .1 .2)) (p .1 .1)
     where
-      go : {b : Answer} → Kinds f b → Kept b → (f .page < 2 ^ 36) × (1 ≤ f .place) × (f .place ≤ 4)
+      go : {b : Answer} → Kinds f b → Kept pages b → (f .page < pages) × (1 ≤ f .place) × (f .place ≤ 5)
       go (ended z y) h = absurd (n z)
       go (ran r z s) h = absurd (m z)
       go (stopped-reserved z) h = h
       go (stopped-outside z) h = h
 
-  pub page-bound : f .page < 2 ^ 36
-  page-bound = go (kinds f (p .0) (p .2)) (p .1)
+  pub page-bound : 0 < pages → f .page < pages
+  page-bound some = go (kinds f (p .1 .0) (p .1 .2)) (p .1 .1)
     where
-      go : {b : Answer} → Kinds f b → Kept b → f .page < 2 ^ 36
+      go : {b : Answer} → Kinds f b → Kept pages b → f .page < pages
       go (ended z y) h = omega arith
       go (ran r z s) h = h .0
       go (stopped-reserved z) h = h .0

@@ -1,11 +1,9 @@
-pub mod Tables
+pub mod Places
 pub mod Looks
 pub mod RightsBits
 pub mod Refused
 pub mod Walked
 pub mod Fields
-pub mod Scans
-pub mod ScanRuns
 pub mod Founds
 pub mod ListKept
 pub mod ListWords
@@ -13,3 +11,10 @@ pub mod ListTurns
 pub mod Agreement
 pub mod ListAgreement
 pub mod Unread
+pub mod FourWords
+pub mod Remembering
+pub mod Passing
+pub mod Lowest
+pub mod Spanning
+pub mod Upper
+pub mod Emptiness

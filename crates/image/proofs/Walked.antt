@@ -1,7 +1,6 @@
 -- What the walk says of a page fits in one number, and is had back from it by shifts and masks.
 use Prim.Native.Nat.{ℕ, zero, suc, _+_, _-_, _*_, _/_, _%_, _^_, _≤_, _<_}
-use mathlib.Core.Path.{_≡_, sym, ap, _∙_, subst}
-use mathlib.Core.Bool.{true}
+use mathlib.Core.Path.{_≡_, refl, sym, ap, _∙_, subst}
 use mathlib.Core.List.{List}
 use mathlib.Core.Option.{Option, none, some}
 use native.Mathlib.Omega.{arith}
@@ -10,31 +9,31 @@ use native.Mathlib.Nat.{mod-lt, mod-eq-of-lt}
 use lib.Bits.{bitAnd, and-mask}
 use lib.Pow.{pow-pos}
 use Rattle.mapping.specs.Pages.{Rights, reserved, outside}
-use Rattle.mapping.specs.Walk.{Walked, absent, broken, mapped, joined, follow, walk}
-use Rattle.image.specs.Entry.{rightsOf, entry}
-use Rattle.image.specs.Look.{lookIn}
+use Rattle.mapping.specs.Walk.{Walked, absent, broken, mapped, joined, wordFor, follow, walk}
+use Rattle.image.specs.Entry.{rightsOf, entryBy}
+use Rattle.image.specs.Look.{seen}
 use Rattle.image.specs.Packed.{rightsBits, rightsFrom, Fits, packed}
 use Rattle.image.specs.declared.look.Look.{Look}
 use Rattle.image.specs.declared.look.Look.the-variants as look
-use Rattle.image.proofs.Looks.{reads, walk-words, Sound, look-sound}
+use Rattle.image.proofs.Looks.{reads, walk-word, Sound, sound-entry}
 use Rattle.image.proofs.RightsBits.{bits-from, bits-lt}
 
-module _ (memory : ℕ → Option (List ℕ)) where
+module _ (mask : ℕ) (memory : ℕ → Option (List ℕ)) where
   -- below an entry, where the tables of its level fit
-  follow-fits : (level : ℕ) (r : Rights) (x : ℕ) → level ≤ 4 → ((t : List ℕ) → Fits (walk (entry 52 true) memory level t r x))
-      → (o : Option (List ℕ)) → Fits (follow o (level + 1) (λ t. walk (entry 52 true) memory level t r x))
+  follow-fits : (level : ℕ) (r : Rights) (x : ℕ) → level ≤ 5 → ((t : List ℕ) → Fits (walk (entryBy mask) memory level t r x))
+      → (o : Option (List ℕ)) → Fits (follow o (level + 1) (λ t. walk (entryBy mask) memory level t r x))
   follow-fits level r x h f none = omega arith
   follow-fits level r x h f (some t) = f t
 
-  pub fits : (level : ℕ) (t : List ℕ) (r : Rights) (x : ℕ) → level ≤ 4 → Fits (walk (entry 52 true) memory level t r x)
+  pub fits : (level : ℕ) (t : List ℕ) (r : Rights) (x : ℕ) → level ≤ 5 → Fits (walk (entryBy mask) memory level t r x)
   unfolding walk
   fits zero t r x h = omega arith
   fits (suc n) t r x h =
-      subst (λ (w : Walked). Fits w) (sym (walk-words memory n r x t) ∙ ap (λ (k : ℕ). walk (entry 52 true) memory k t r x) (add-one n))
-      (go (lookIn (some t) n x) (look-sound (some t) n x) (λ t′ r′. fits n t′ r′ x (omega arith)))
+      let v = wordFor t n x in
+      subst (λ (w : Walked). Fits w) (sym (walk-word mask memory n r x t v refl) ∙ ap (λ (k : ℕ). walk (entryBy mask) memory k t r x) (add-one n))
+      (go (seen v (entryBy mask (n + 1) v)) (sound-entry mask n v) (λ t′ r′. fits n t′ r′ x (omega arith)))
     where
-      go : (l : Look) → Sound n l → ((t′ : List ℕ) (r′ : Rights) → Fits (walk (entry 52 true) memory n t′ r′ x)) → Fits (reads memory n r x l)
-      go look.Outside s f = omega arith
+      go : (l : Look) → Sound n l → ((t′ : List ℕ) (r′ : Rights) → Fits (walk (entryBy mask) memory n t′ r′ x)) → Fits (reads mask memory n r x l)
       go look.Absent s f = omega arith
       go look.Reserved s f = omega arith
       go (look.Leaf g v) s f = (omega arith, omega arith, omega (arith, mod-lt x (pow-pos (9 * n))))

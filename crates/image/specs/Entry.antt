@@ -2,6 +2,7 @@
 -- The sentences are those of document 01, "Entry rules"; the manual is AMD64 APM volume 2, "Long-Mode Page Translation".
 use Prim.Native.Nat.{ℕ, _+_, _-_, _*_, _/_, _%_, _^_}
 use mathlib.Core.Bool.{Bool, false, cond, not, _&&_, _||_}
+use lib.Bits.{bitAnd}
 use lib.Dec.{eqb, leb}
 use Rattle.laws.specs.Width.{bit}
 use Rattle.mapping.specs.Pages.{Rights, rights}
@@ -46,5 +47,16 @@ unfoldable pub entry : ℕ → Bool → ℕ → ℕ → Entry
 entry w noExecute l v =
     cond (set 0 v)
     (cond (reserves w noExecute l v) reservedBit
+    (cond (eqb l 1 || large l v) (maps (firstFrame l v) (rightsOf v)) (table (tableAddress v) (rightsOf v))))
+    notPresent
+
+-- the same with the bits that the processor reserves as a mask, which the code makes once for a call: at 52 and on it has none (`no-mask` of proofs/Fields.antt)
+abbrev pub reservesBy : (mask l v : ℕ) → Bool
+reservesBy mask l v = not (eqb (bitAnd v mask) 0) || (largeTooHigh l v || largeNotAligned l v)
+
+unfoldable pub entryBy : (mask l v : ℕ) → Entry
+entryBy mask l v =
+    cond (set 0 v)
+    (cond (reservesBy mask l v) reservedBit
     (cond (eqb l 1 || large l v) (maps (firstFrame l v) (rightsOf v)) (table (tableAddress v) (rightsOf v))))
     notPresent

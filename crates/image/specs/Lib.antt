@@ -3,8 +3,12 @@ pub mod Memory
 pub mod Span
 pub mod Look
 pub mod Packed
+pub mod Pages
+pub mod Progress
+pub mod EmptyTables
+pub mod Tables
+pub mod Root
 pub mod Translate
-pub mod Scan
 pub mod Search
 pub mod Found
 pub mod List

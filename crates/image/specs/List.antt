@@ -1,6 +1,6 @@
 -- The answers of a list of searches, written into lent words.
 use Prim.Native.Nat.{ℕ, _+_, _/_}
-use mathlib.Core.Bool.{cond}
+use mathlib.Core.Bool.{true, cond}
 use mathlib.Core.List.{List, [], _∷_, _++_, map}
 use mathlib.Core.Option.{Option, none, some}
 use mathlib.Core.Path.{_≡_}
@@ -12,6 +12,9 @@ use Rattle.mapping.specs.Pages.{Space}
 use Rattle.mapping.specs.Search.{Answer, answersFrom, leftAfter}
 use Rattle.addr.specs.Item.{Item, item}
 use Rattle.page.specs.Page as page
+use Rattle.image.specs.EmptyTables.{TrueOf}
+use Rattle.image.specs.Entry.{entry}
+use Rattle.image.specs.Memory.{tableAt}
 use Rattle.image.specs.Translate.{rootTable, pageNumber}
 use Rattle.image.specs.Search.{Report, pageItem, report, reportWords, answerWords, searchRefusal, imagePages}
 use Rattle.image.specs.Found.{foundOf}
@@ -75,3 +78,9 @@ listingOf r out = record { answer = listedOf r; words = out }
 -- an answer's words at a place of the lent ones, all else as it was
 abbrev pub Stored : (i : ℕ) → Found → List ℕ → List ℕ → Type 0
 Stored i f before after = (a : Answer) → f ≡ foundOf a → after ≡ take i before ++ (reportWords (report 48 a) ++ drop (i + answerWords) before)
+
+-- the lent bytes before and after: as long as before; on a refusal as they were, else free, but a set bit is true of the image
+pub record Remembered (w : ℕ) (image : List ℕ) (base root a : ℕ) (before after : List ℕ) : Type 0 where
+  pub as-long : length after ≡ length before
+  pub untouched : (searchRefusal w image base root a ≡ 0 → ⊥) → after ≡ before
+  pub true-of : searchRefusal w image base root a ≡ 0 → TrueOf (entry 52 true) (tableAt image base) image after

@@ -1,6 +1,6 @@
 -- What the walk says of a page as one number, so that it travels in a register: two bits for the kind, three for the level, three for the rights, then the frame.
 use Prim.Native.Nat.{ℕ, _+_, _*_, _^_, _≤_, _<_}
-use mathlib.Core.Bool.{Bool, true, false}
+use mathlib.Core.Bool.{Bool, true, false, not}
 use Rattle.mapping.specs.Pages.{Rights, rights, reserved, outside}
 use Rattle.mapping.specs.Walk.{Walked, absent, broken, mapped}
 use Rattle.image.specs.Entry.{set}
@@ -17,9 +17,9 @@ rightsBits (rights w u x) = digit w + 2 * digit u + 4 * digit x
 abbrev pub rightsFrom : ℕ → Rights
 rightsFrom b = rights (set 0 b) (set 1 b) (set 2 b)
 
--- the rights of several entries, by the bits that all of their words have and those that some word has
-abbrev pub rightsOver : ℕ → ℕ → Rights
-rightsOver all any = rights (set 1 all) (set 2 all) (set 63 any)
+-- the rights of several entries, by the bits that all of their words have, bit 63 turned over in each
+abbrev pub rightsOver : ℕ → Rights
+rightsOver all = rights (set 1 all) (set 2 all) (not (set 63 all))
 
 -- what the walk says of a page fits: a level is below 8, a page is mapped at level 1, 2 or 3, its frame is below 2^40
 abbrev pub Fits : Walked → Type 0

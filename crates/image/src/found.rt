@@ -1,20 +1,23 @@
 // The search for mapped runs, by the numbers of pages and frames.
-use crate::scan::ABSENT;
-use crate::scan::scan;
+use crate::memory::TABLE_WORDS;
+use crate::rights::ALL_RIGHTS;
 use crate::span::span_end;
 use crate::span::span_pages;
-use crate::walk::walk_table;
+use crate::tables::pass_table;
 ghost use mathlib.Core.Bool.{cond};
 ghost use mathlib.Core.Path.{_≡_};
-ghost use Prim.Native.Nat.{_<_, _^_};
+ghost use Prim.Native.Nat.{_+_, _/_, _≤_, _<_};
 ghost use lib.Dec.{ltb};
-ghost use Rattle.image.specs.Found.{OfAnswer, FoundAt, FoundFrom, Leaves, foundOf};
-ghost use Rattle.mapping.specs.Search.{end};
+ghost use lib.ListN.{length};
+ghost use Rattle.mapping.specs.Search.{search};
+ghost use Rattle.mapping.specs.Walk.{spanPages, walkedPages};
+ghost use Rattle.image.specs.EmptyTables.{TrueOf};
+ghost use Rattle.image.specs.Entry.{entryBy};
+ghost use Rattle.image.specs.Found.{OfAnswer, Leaves, Reaches, FoundBy, foundOf};
+ghost use Rattle.image.specs.Memory.{segmentsIn, tableFrom, tableIn, total};
 
-// How many 4 KiB pages there are, and the number of the first above the gap.
+// How many 4 KiB pages there are with four levels.
 pub(crate) const PAGES: u64 = 0x10_0000_0000;
-
-const FIRST_HIGH: u64 = 0x8_0000_0000;
 
 // The kinds of answers: nothing follows, a run, a stop at an entry with a reserved bit set, a stop at one whose table is not in the image.
 pub const END: u64 = 0;
@@ -25,6 +28,9 @@ pub const RESERVED: u64 = 2;
 
 pub const OUTSIDE: u64 = 3;
 
+// The words of what a search has found on its way.
+const PROGRESS_WORDS: usize = 4;
+
 // An answer: its kind, its page, the first frame of a run or the level of a stop, a run's count, and its rights as three bits.
 pub(crate) struct Found {
     pub(crate) kind: u64,
@@ -34,85 +40,79 @@ pub(crate) struct Found {
     pub(crate) rights: u64,
 }
 
-fn none() -> Found
-    ensures { λ r. ⌜ r ≡ foundOf end ⌝ }
+// The page after the half that a page is in, of so many pages.
+fn half_end(page: u64, pages: u64) -> u64
+    ensures { λ r. ⌜ r ≡ cond (ltb page (pages / 2)) (pages / 2) pages ⌝ }
 {
-    Found {
-        kind: END,
-        page: 0,
-        place: 0,
-        count: 0,
-        rights: 0,
-    }
+    let half = pages / 2;
+    if page < half { half } else { pages }
 }
 
-// A stop at an entry of a level.
-fn stop(kind: u64, page: u64, level: u64) -> Found
-    ensures { λ r. ⌜ r ≡ record { kind = kind; page = page; place = level; count = 0; rights = 0 } ⌝ }
+// What is found by a search that has come to a page, of so many pages: a run ends with its half.
+fn found_of(progress: &[u64], reached: u64, pages: u64) -> Found
+    requires { ⌜ Reaches (now progress) reached pages ⌝ }
+    ensures { λ r. ⌜ FoundBy pages (now (progress .entry)) reached r ⌝ }
 {
+    let kind = progress[0];
+    let page = progress[1];
+    if kind == RUN {
+        let half = half_end(page, pages);
+        let last = if reached < half { reached } else { half };
+        return Found {
+            kind,
+            page,
+            place: progress[2],
+            count: last - page,
+            rights: progress[3],
+        };
+    }
     Found {
         kind,
         page,
-        place: level,
+        place: progress[2],
         count: 0,
         rights: 0,
     }
 }
 
-// The page after the half that a page is in.
-fn half_end(page: u64) -> u64
-    ensures { λ r. ⌜ r ≡ cond (ltb page (2 ^ 35)) (2 ^ 35) (2 ^ 36) ⌝ }
+// The first run or stop from a page on, in the tables below the root at a place.
+pub(crate) fn find(
+    words: &[u64],
+    segments: &[u64],
+    empty: &mut [u8],
+    levels: u64,
+    reserved: u64,
+    root: usize,
+    page: u64,
+) -> Found
+    requires { ⌜ (2 ≤ levels) × (levels ≤ 5) × (page < spanPages levels) × (root + 512 ≤ length (now words)) × (total (segmentsIn (now segments)) ≡ length (now words)) × TrueOf (entryBy reserved) (tableIn (segmentsIn (now segments)) (now words)) (now words) (now empty) ⌝ }
+    ensures { λ r. ⌜ (r ≡ foundOf (search (walkedPages (entryBy reserved) (tableIn (segmentsIn (now (segments .entry))) (now (words .entry))) levels (tableFrom (now (words .entry)) root)) page)) × (length (now (empty .exit)) ≡ length (now (empty .entry))) × TrueOf (entryBy reserved) (tableIn (segmentsIn (now (segments .entry))) (now (words .entry))) (now (words .entry)) (now (empty .exit)) ⌝ }
 {
-    if page < FIRST_HIGH { FIRST_HIGH } else { PAGES }
-}
-
-// What begins at a page, by what the walk says of it.
-fn found_at(image: &[u64], base: u64, root: u64, page: u64, walked: u64) -> Found
-    requires { ⌜ page < 2 ^ 36 ⌝ }
-    ensures { λ r. ⌜ FoundAt (now (image .entry)) base root page walked r ⌝ }
-{
-    let kind = walked & 3;
-    if kind == 0 {
-        return none();
-    }
-    if kind < 3 {
-        return stop(kind + 1, page, (walked >> 2) & 7);
-    }
-    let frame = (walked >> 8) & 0xff_ffff_ffff;
-    let rights = (walked >> 5) & 7;
-    let end = scan(image, base, root, 4, page, u64::MAX, 0, frame, rights);
-    let half = half_end(page);
-    let last = if end < half { end } else { half };
-    Found {
-        kind: RUN,
+    let mut progress = [0u64; PROGRESS_WORDS];
+    let pages = span_pages(levels - 1);
+    let reached = pass_table(
+        words,
+        segments,
+        empty,
+        &mut progress,
+        root,
+        levels,
+        pages,
         page,
-        place: frame,
-        count: last - page,
-        rights,
-    }
+        ALL_RIGHTS,
+        reserved,
+    );
+    found_of(&progress, reached, pages * TABLE_WORDS as u64)
 }
 
-// The first run or stop from a page on.
-pub(crate) fn find(image: &[u64], base: u64, root: u64, page: u64) -> Found
-    requires { ⌜ page < 2 ^ 36 ⌝ }
-    ensures { λ r. ⌜ FoundFrom (now (image .entry)) base root page r ⌝ }
-{
-    let first = scan(image, base, root, 4, page, u64::MAX, 0, 0, ABSENT);
-    if PAGES <= first {
-        return none();
-    }
-    let walked = walk_table(image, base, root, 4, first, u64::MAX, 0);
-    found_at(image, base, root, first, walked)
-}
-
-// The next page that an answer leaves.
-pub(crate) fn next_page(found: Found) -> u64
-    requires { ⌜ OfAnswer found ⌝ }
-    ensures { λ r. ⌜ Leaves found r ⌝ }
+// The next page that an answer leaves, of so many pages.
+pub(crate) fn next_page(found: Found, pages: u64) -> u64
+    requires { ⌜ OfAnswer pages found ⌝ }
+    ensures { λ r. ⌜ Leaves pages found r ⌝ }
 {
     let kind = found.kind;
     if kind == END {
-        return PAGES;
+        return pages;
     }
     if kind == RUN {
         return found.page + found.count;

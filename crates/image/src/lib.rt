@@ -1,15 +1,18 @@
 // Page tables in a memory image: tables, entries, translation, and the search for mapped runs. An image is lent words, never written; base is the physical address of
 // its first word.
+mod empty_tables;
 mod entry;
 mod found;
 mod list_searches;
 mod look;
 mod memory;
+mod pages;
+mod progress;
 mod refusal;
 mod rights;
 mod run_search;
-mod scan;
 mod span;
+mod tables;
 mod translation;
 mod walk;
 

@@ -1,21 +1,30 @@
 // A list of searches, into lent words.
+use crate::empty_tables::forget;
 use crate::found::Found;
 use crate::found::PAGES;
 use crate::found::RUN;
 use crate::found::find;
 use crate::found::next_page;
+use crate::refusal::Root;
+use crate::refusal::search_place;
 use crate::run_search::numbered_page;
-use crate::run_search::search_refusal;
+use crate::translation::LEVELS;
+use crate::translation::NO_MASK;
 use crate::translation::page_number;
 use addr::PhysAddr;
 use addr::VirtAddr;
 use page::Page;
 ghost use mathlib.Core.Path.{_≡_};
-ghost use Prim.Native.Nat.{_+_, _≤_};
+ghost use Prim.Native.Nat.{_+_, _^_, _≤_, _<_};
 ghost use lib.ListN.{length};
+ghost use Rattle.answer.specs.Outcome.{gives};
+ghost use Rattle.mapping.specs.Walk.{walkedPages};
+ghost use Rattle.image.specs.EmptyTables.{TrueOf};
+ghost use Rattle.image.specs.Entry.{entryBy};
 ghost use Rattle.image.specs.Found.{OfAnswer};
+ghost use Rattle.image.specs.List.{listingOf, listing, settled, Remembered, Stored};
+ghost use Rattle.image.specs.Memory.{segmentsIn, tableFrom, tableIn, total};
 ghost use Rattle.image.specs.Search.{answerWords};
-ghost use Rattle.image.specs.List.{listingOf, listing, Stored};
 
 pub enum ListAnswer {
     // The search is over, with so many answers written.
@@ -30,7 +39,7 @@ pub const ANSWER_WORDS: usize = 5;
 
 // Stores an answer: its kind, the address of its page, the address of its frame or its level, its count, its rights as bits.
 fn store(out: &mut [u64], at: usize, found: Found)
-    requires { ⌜ (at + answerWords ≤ length (now out)) × OfAnswer found ⌝ }
+    requires { ⌜ (at + answerWords ≤ length (now out)) × OfAnswer (2 ^ 36) found ⌝ }
     ensures { λ _. ⌜ Stored at found (now (out .entry)) (now (out .exit)) ⌝ }
 {
     let kind = found.kind;
@@ -47,33 +56,54 @@ fn store(out: &mut [u64], at: usize, found: Found)
     out[at + 4] = found.rights;
 }
 
-// The answers of the searches from a 4 KiB page on, each from the next page that the one before it left, as many as have room in out, five words each. Beyond them
-// out is left as it was, and so is all of it on a refusal.
-pub fn list(
-    image: &[u64],
-    base: PhysAddr,
-    root: PhysAddr,
-    page: VirtAddr,
+// The answers of the searches from a page on, by its number, in the tables below the root at a place.
+fn list_from(
+    words: &[u64],
+    segments: &[u64],
+    root: usize,
+    page: u64,
+    empty: &mut [u8],
     out: &mut [u64],
 ) -> ListAnswer
-    ensures { λ r. ⌜ listingOf r (now (out .exit)) ≡ listing 48 4 (now (image .entry)) (base .0) (root .0) (page .0) (now (out .entry)) ⌝ }
+    requires { ⌜ (page < 2 ^ 36) × (root + 512 ≤ length (now words)) × (total (segmentsIn (now segments)) ≡ length (now words)) × TrueOf (entryBy 0) (tableIn (segmentsIn (now segments)) (now words)) (now words) (now empty) ⌝ }
+    ensures { λ r. ⌜ (listingOf r (now (out .exit)) ≡ settled 48 (gives (walkedPages (entryBy 0) (tableIn (segmentsIn (now (segments .entry))) (now (words .entry))) 4 (tableFrom (now (words .entry)) root))) page (now (out .entry))) × (length (now (empty .exit)) ≡ length (now (empty .entry))) × TrueOf (entryBy 0) (tableIn (segmentsIn (now (segments .entry))) (now (words .entry))) (now (words .entry)) (now (empty .exit)) ⌝ }
 {
-    let refused = search_refusal(image, base.0, root.0, page.0);
-    if refused != 0 {
-        return ListAnswer::Refused(refused);
-    }
-    let mut at = page_number(page.0);
+    let mut at = page;
     let mut written = 0;
     let mut used = 0;
     while at < PAGES {
         if out.len() - used < ANSWER_WORDS {
             return ListAnswer::More(written, numbered_page(at));
         }
-        let found = find(image, base.0, root.0, at);
+        let found = find(words, segments, empty, LEVELS, NO_MASK, root, at);
         store(out, used, found);
-        at = next_page(found);
+        at = next_page(found, PAGES);
         written += 1;
         used += ANSWER_WORDS;
     }
     ListAnswer::Over(written)
+}
+
+// The answers of the searches from a 4 KiB page on, each from the next page that the one before it left, as many as have room in out, five words each. Beyond them
+// out is left as it was, and so is all of it on a refusal. In empty_tables the searches remember which tables hold nothing, a byte for each table and a bit for each level:
+// what stands there before does not matter, and where there is no byte nothing is remembered.
+pub fn list(
+    image: &[u64],
+    base: PhysAddr,
+    root: PhysAddr,
+    page: VirtAddr,
+    empty_tables: &mut [u8],
+    out: &mut [u64],
+) -> ListAnswer
+    ensures { λ r. ⌜ (listingOf r (now (out .exit)) ≡ listing 48 4 (now (image .entry)) (base .0) (root .0) (page .0) (now (out .entry))) × Remembered 48 (now (image .entry)) (base .0) (root .0) (page .0) (now («empty_tables» .entry)) (now («empty_tables» .exit)) ⌝ }
+{
+    let segments = [base.0, image.len() as u64];
+    let place = search_place(&segments, base.0, root.0, page.0);
+    match place {
+        Root::Refused(number) => ListAnswer::Refused(number),
+        Root::At(at) => {
+            forget(empty_tables);
+            list_from(image, &segments, at, page_number(page.0), empty_tables, out)
+        }
+    }
 }

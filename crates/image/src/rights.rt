@@ -1,5 +1,7 @@
 // What a mapping allows.
 ghost use mathlib.Core.Path.{_≡_};
+ghost use Prim.Native.Nat.{_^_};
+ghost use lib.Bits.{bitXor};
 ghost use Rattle.image.specs.Packed.{rightsBits, rightsOver};
 
 // Writable and user hold if every level has them, no-execute if some level has it.
@@ -9,9 +11,19 @@ pub struct Rights {
     pub no_execute: bool,
 }
 
-// The rights as three bits, by the bits that all words of the walk have and those that some word has.
-pub(crate) fn rights_bits(all: u64, any: u64) -> u64
-    ensures { λ r. ⌜ r ≡ rightsBits (rightsOver all any) ⌝ }
+// The rights above the root: all.
+pub(crate) const ALL_RIGHTS: u64 = u64::MAX;
+
+// A word with bit 63 turned over, so that each of its rights is a bit that every level must have.
+pub(crate) fn allows(word: u64) -> u64
+    ensures { λ r. ⌜ r ≡ bitXor word (2 ^ 63) ⌝ }
 {
-    ((all >> 1) & 3) + (any >> 63) * 4
+    word ^ 0x8000_0000_0000_0000
+}
+
+// The rights as three bits, by the bits that all words of the walk have.
+pub(crate) fn rights_bits(all: u64) -> u64
+    ensures { λ r. ⌜ r ≡ rightsBits (rightsOver all) ⌝ }
+{
+    ((all >> 1) & 3) + (1 - (all >> 63)) * 4
 }

@@ -4,15 +4,16 @@ use crate::found::Found;
 use crate::found::RESERVED;
 use crate::found::RUN;
 use crate::found::find;
-use crate::refusal::image_refusal;
+use crate::refusal::Root;
+use crate::refusal::search_place;
 use crate::rights::Rights;
+use crate::translation::LEVELS;
+use crate::translation::NO_MASK;
 use crate::translation::page_number;
 use crate::translation::rights_from;
 use addr::PhysAddr;
 use addr::VirtAddr;
 use addr::Width;
-use answer::NOT_ALIGNED;
-use answer::NOT_CANONICAL;
 use frame::PhysFrame;
 use page::Page;
 use table::PageSize;
@@ -63,7 +64,7 @@ fn numbered_frame(number: u64) -> PhysFrame
 
 // What is reported of an answer.
 fn answer_of(found: Found) -> SearchAnswer
-    requires { ⌜ OfAnswer found ⌝ }
+    requires { ⌜ OfAnswer (2 ^ 36) found ⌝ }
     ensures { λ r. ⌜ ReportsFound found r ⌝ }
 {
     let kind = found.kind;
@@ -85,28 +86,27 @@ fn answer_of(found: Found) -> SearchAnswer
     SearchAnswer::Stop(page, found.place, StopReason::Outside)
 }
 
-// The number that refuses a search: those of the image, then 1 and 3 of the page; 0 for none.
-pub(crate) fn search_refusal(image: &[u64], base: u64, root: u64, page: u64) -> u8
-    ensures { λ r. ⌜ r ≡ searchRefusal 48 (now (image .entry)) base root page ⌝ }
-{
-    let refused = image_refusal(image, base, root);
-    if refused != 0 {
-        return refused;
-    }
-    if !Width::Bits48.is_canonical(page) {
-        return NOT_CANONICAL;
-    }
-    if page % 0x1000 == 0 { 0 } else { NOT_ALIGNED }
-}
-
 // The first run or stop from a 4 KiB page on.
 pub fn search(image: &[u64], base: PhysAddr, root: PhysAddr, page: VirtAddr) -> SearchAnswer
     ensures { λ r. ⌜ reportOf r ≡ searching 48 4 (now (image .entry)) (base .0) (root .0) (page .0) ⌝ }
 {
-    let refused = search_refusal(image, base.0, root.0, page.0);
-    if refused != 0 {
-        return SearchAnswer::Refused(refused);
+    let segments = [base.0, image.len() as u64];
+    let place = search_place(&segments, base.0, root.0, page.0);
+    match place {
+        Root::Refused(number) => SearchAnswer::Refused(number),
+        Root::At(at) => {
+            let mut empty_tables = [0u8; 0];
+            let from = page_number(page.0);
+            let found = find(
+                image,
+                &segments,
+                &mut empty_tables,
+                LEVELS,
+                NO_MASK,
+                at,
+                from,
+            );
+            answer_of(found)
+        }
     }
-    let found = find(image, base.0, root.0, page_number(page.0));
-    answer_of(found)
 }

@@ -23,7 +23,7 @@ pub(crate) fn within_span(page: u64, below: u64, pages: u64) -> u64
 
 // The page after the last of the span that a page is in.
 pub(crate) fn span_end(page: u64, below: u64, pages: u64) -> u64
-    requires { ⌜ (pages ≡ spanPages below) × (below ≤ 4) × (page < 2 ^ 36) ⌝ }
+    requires { ⌜ (pages ≡ spanPages below) × (below ≤ 5) × (page < 2 ^ 45) ⌝ }
     ensures { λ r. ⌜ r ≡ after below page ⌝ }
 {
     page - (page & (pages - 1)) + pages

@@ -1,5 +1,7 @@
 // Translation of an address.
-use crate::refusal::image_refusal;
+use crate::refusal::Root;
+use crate::refusal::root_place;
+use crate::rights::ALL_RIGHTS;
 use crate::rights::Rights;
 use crate::walk::walk_table;
 use addr::PhysAddr;
@@ -10,6 +12,11 @@ use table::PageSize;
 ghost use mathlib.Core.Path.{_≡_};
 ghost use Rattle.image.specs.Packed.{rightsFrom};
 ghost use Rattle.image.specs.Translate.{pageNumber, rightsHeld, AnswersPacked, SizeAt, translation, translationOf};
+
+// Four levels of tables, and a processor that reserves no bits of its own.
+pub(crate) const LEVELS: u64 = 4;
+
+pub(crate) const NO_MASK: u64 = 0;
 
 // The number is the level of the entry that decides.
 pub enum TranslateAnswer {
@@ -77,14 +84,18 @@ fn answer_for(addr: u64, found: u64) -> TranslateAnswer
 pub fn translate(image: &[u64], base: PhysAddr, root: PhysAddr, addr: VirtAddr) -> TranslateAnswer
     ensures { λ r. ⌜ translationOf r ≡ translation 48 4 (now (image .entry)) (base .0) (root .0) (addr .0) ⌝ }
 {
-    let refused = image_refusal(image, base.0, root.0);
-    if refused != 0 {
-        return TranslateAnswer::Refused(refused);
+    let segments = [base.0, image.len() as u64];
+    let place = root_place(&segments, base.0, root.0);
+    match place {
+        Root::Refused(number) => TranslateAnswer::Refused(number),
+        Root::At(at) => {
+            let a = addr.0;
+            if !Width::Bits48.is_canonical(a) {
+                return TranslateAnswer::Refused(NOT_CANONICAL);
+            }
+            let page = page_number(a);
+            let found = walk_table(image, &segments, at, LEVELS, page, ALL_RIGHTS, NO_MASK);
+            answer_for(a, found)
+        }
     }
-    let a = addr.0;
-    if !Width::Bits48.is_canonical(a) {
-        return TranslateAnswer::Refused(NOT_CANONICAL);
-    }
-    let found = walk_table(image, base.0, root.0, 4, page_number(a), u64::MAX, 0);
-    answer_for(a, found)
 }

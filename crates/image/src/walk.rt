@@ -1,44 +1,90 @@
 // The walk from a table down to what decides about a page.
+use crate::entry::frame_in;
+use crate::entry::is_set;
 use crate::look::Look;
-use crate::look::look_at;
+use crate::look::look_word;
+use crate::memory::Place;
+use crate::memory::TABLE_WORDS;
+use crate::memory::table_at;
+use crate::memory::table_place;
+use crate::rights::allows;
 use crate::rights::rights_bits;
-use crate::span::span_pages;
-use crate::span::within_span;
-ghost use mathlib.Core.Bool.{true};
 ghost use mathlib.Core.Path.{_≡_};
-ghost use Prim.Native.Nat.{_+_, _≤_};
-ghost use Rattle.mapping.specs.Walk.{follow, walk};
-ghost use Rattle.image.specs.Entry.{entry};
-ghost use Rattle.image.specs.Memory.{tableAt};
+ghost use Prim.Native.Nat.{_+_, _^_, _≤_, _<_};
+ghost use lib.ListN.{length};
+ghost use Rattle.mapping.specs.Walk.{mapped, walk};
+ghost use Rattle.image.specs.Entry.{entryBy};
+ghost use Rattle.image.specs.Memory.{segmentsIn, tableFrom, tableIn, total};
 ghost use Rattle.image.specs.Packed.{rightsOver, packed};
+ghost use Rattle.image.specs.Pages.{PageIn};
 
-// What the table of the level at an address says of a page, as one number. all has the bits that every word above it has, any those that some word has.
+// A mapped page as one number.
+fn packed_page(frame: u64, level: u64, rights: u64) -> u64
+    requires { ⌜ (frame < 2 ^ 40) × (level ≤ 3) ⌝ }
+    ensures { λ r. ⌜ r ≡ packed (mapped frame level (rightsOver rights)) ⌝ }
+{
+    256 * frame + 32 * rights_bits(rights) + 4 * level + 3
+}
+
+// What the table of level 1 at a place says of a page, as one number. rights has the bits that every word above it has.
+fn walk_page(words: &[u64], place: usize, page: u64, rights: u64, reserved: u64) -> u64
+    requires { ⌜ place + 512 ≤ length (now words) ⌝ }
+    ensures { λ r. ⌜ PageIn reserved (now (words .entry)) place rights page r ⌝ }
+{
+    let table = table_at(words, place);
+    let word = table[page as usize % TABLE_WORDS];
+    let present = is_set(word, 0);
+    if !present {
+        return 4;
+    }
+    if word & reserved != 0 {
+        return 5;
+    }
+    packed_page(frame_in(word), 1, rights & allows(word))
+}
+
+// What the table of the level at a place says of a page, as one number.
 pub(crate) fn walk_table(
-    image: &[u64],
-    base: u64,
-    table: u64,
+    words: &[u64],
+    segments: &[u64],
+    place: usize,
     level: u64,
     page: u64,
-    all: u64,
-    any: u64,
+    rights: u64,
+    reserved: u64,
 ) -> u64
-    requires { ⌜ (1 ≤ level) × (level ≤ 4) ⌝ }
-    ensures { λ r. ⌜ r ≡ packed (follow (tableAt (now (image .entry)) base table) (level + 1) (λ t. walk (entry 52 true) (tableAt (now (image .entry)) base) level t (rightsOver all any) page)) ⌝ }
+    requires { ⌜ (2 ≤ level) × (level ≤ 5) × (place + 512 ≤ length (now words)) × (total (segmentsIn (now segments)) ≡ length (now words)) ⌝ }
+    ensures { λ r. ⌜ r ≡ packed (walk (entryBy reserved) (tableIn (segmentsIn (now (segments .entry))) (now (words .entry))) level (tableFrom (now (words .entry)) place) (rightsOver rights) page) ⌝ }
 {
     let below = level - 1;
-    let found = look_at(image, base, table, below, page);
+    let table = table_at(words, place);
+    let found = look_word(
+        table[(page >> (9 * below)) as usize % TABLE_WORDS],
+        below,
+        reserved,
+    );
     match found {
-        Look::Outside => 4 * (level + 1) + 2,
         Look::Absent => 4 * level,
         Look::Reserved => 4 * level + 1,
         Look::Leaf(first, word) => {
-            let frame = first + within_span(page, below, span_pages(below));
-            256 * frame + 32 * rights_bits(all & word, any | word) + 4 * level + 3
+            let frame = first + (page & ((1 << (9 * below)) - 1));
+            packed_page(frame, level, rights & allows(word))
         }
-        Look::Next(next, word) => {
-            // A part that is the whole: the words' place and number then go on in registers.
-            let whole = &image[0..image.len()];
-            walk_table(whole, base, next, below, page, all & word, any | word)
+        Look::Next(address, word) => {
+            let next = table_place(segments, address);
+            match next {
+                Place::Outside => 4 * level + 2,
+                Place::At(lower) => {
+                    let above = rights & allows(word);
+                    if below == 1 {
+                        return walk_page(words, lower, page, above, reserved);
+                    }
+                    // Parts that are the whole: the slices' places and lengths then go on in registers.
+                    let words = &words[0..words.len()];
+                    let segments = &segments[0..segments.len()];
+                    walk_table(words, segments, lower, below, page, above, reserved)
+                }
+            }
         }
     }
 }

@@ -9,3 +9,4 @@ pub mod Spans
 pub mod Example
 pub mod Some
 pub mod PageNumbers
+pub mod Pass

@@ -4,12 +4,13 @@ use mathlib.Core.Path.{_≡_, refl, sym, ap, _∙_}
 use mathlib.Core.List.{List}
 use mathlib.Core.Option.{Option, none, some}
 use native.Mathlib.Omega.{arith}
-use lib.Pow.{pow-pos, pow-mono, shr-shr, field, mod-mod-pow}
+use native.Mathlib.Nat.{mod-lt, div-add-mod'}
+use lib.Pow.{pow-pos, pow-mono, shr-shr, field, mod-mod-pow, low}
 use lib.ListN.{getD}
 use Rattle.laws.proofs.Align.{blocks}
 use Rattle.mapping.specs.Pages.{Rights, Reason, reserved, outside, Spanned}
 use Rattle.mapping.specs.Pages as page
-use Rattle.mapping.specs.Walk.{Entry, notPresent, reservedBit, maps, table, Walked, absent, broken, mapped, joined, allRights, spanPages, entryIndex, wordFor, follow, step, walk, stateOf, walkedPages}
+use Rattle.mapping.specs.Walk.{Entry, notPresent, reservedBit, maps, table, Walked, absent, broken, mapped, joined, allRights, spanPages, entryIndex, wordFor, follow, step, walk, stateOf, walkedPages, HoldsNothing}
 
 -- the entry of level n + 1 that page x is under, in the table t
 abbrev pub entryOf : (entry : ℕ → ℕ → Entry) (n : ℕ) (t : List ℕ) (x : ℕ) → Entry
@@ -92,6 +93,37 @@ module _ (entry : ℕ → ℕ → Entry) (memory : ℕ → Option (List ℕ)) wh
       go reservedBit f = refl
       go (maps g k) f = ap (λ (i : ℕ). mapped (g + i) (n + 1) (joined r k)) place
       go (table a k) f = follows (memory a) (λ t′. walk entry memory n t′ (joined r k) (x % spanPages m)) (λ t′. walk entry memory n t′ (joined r k) x) (λ t′. f t′ (joined r k))
+
+  -- a page is absent whatever the rights
+  absent-any : (n : ℕ) (t : List ℕ) (r r′ : Rights) (x : ℕ) → stateOf (walk entry memory n t r x) ≡ page.absent → stateOf (walk entry memory n t r′ x) ≡ page.absent
+  unfolding walk step
+  absent-any zero t r r′ x h = refl
+  absent-any (suc n) t r r′ x h = go (entryOf entry n t x) (λ t′ q q′. absent-any n t′ q q′ x) h
+    where
+      down : (o : Option (List ℕ)) (f g : List ℕ → Walked) → ((t′ : List ℕ) → stateOf (f t′) ≡ page.absent → stateOf (g t′) ≡ page.absent)
+          → stateOf (follow o (n + 1) f) ≡ page.absent → stateOf (follow o (n + 1) g) ≡ page.absent
+      down none f g e z = z
+      down (some t′) f g e z = e t′ z
+
+      go : (v : Entry) → ((t′ : List ℕ) (q q′ : Rights) → stateOf (walk entry memory n t′ q x) ≡ page.absent → stateOf (walk entry memory n t′ q′ x) ≡ page.absent)
+          → stateOf (step memory (λ t′ q. walk entry memory n t′ q x) n r x v) ≡ page.absent → stateOf (step memory (λ t′ q. walk entry memory n t′ q x) n r′ x v) ≡ page.absent
+      go notPresent f z = refl
+      go reservedBit f z = z
+      go (maps g k) f z = absurd (let o : _≡_ {A = ℕ} 0 1 = cc in omega arith)
+      go (table a k) f z = down (memory a) (λ t′. walk entry memory n t′ (joined r k) x) (λ t′. walk entry memory n t′ (joined r′ k) x) (λ t′. f t′ (joined r k) (joined r′ k)) z
+
+  -- a table holds nothing if the pages of one of its spans are absent
+  pub holds-nothing : (n : ℕ) (t : List ℕ) (r : Rights) (b : ℕ) → b % spanPages n ≡ 0
+      → ((x : ℕ) → b ≤ x → x < b + spanPages n → stateOf (walk entry memory n t r x) ≡ page.absent) → HoldsNothing entry memory n t
+  holds-nothing n t r b e h r′ y =
+      absent-any n t r r′ y (ap stateOf (sym (walk-low n n t r y (omega arith)) ∙ ap (walk entry memory n t r) same ∙ walk-low n n t r (b + y % spanPages n) (omega arith))
+      ∙ h (b + y % spanPages n) (omega arith) (omega (arith, mod-lt y (pow-pos (9 * n)))))
+    where
+      same : y % spanPages n ≡ (b + y % spanPages n) % spanPages n
+      same =
+          let q = b / spanPages n in
+          let d : b ≡ q * spanPages n = omega (arith, div-add-mod' b (spanPages n)) in
+          sym (ap (λ (k : ℕ). (k + y % spanPages n) % spanPages n) d ∙ low q (9 * n) (mod-lt y (pow-pos (9 * n))))
 
   -- a broken entry's level is one of the levels walked, and the pages of its span are broken alike
   pub record BrokenSpan (n : ℕ) (t : List ℕ) (r : Rights) (x l : ℕ) (c : Reason) : Type 0 where

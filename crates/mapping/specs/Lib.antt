@@ -3,3 +3,4 @@ pub mod Search
 pub mod Agreement
 pub mod Walk
 pub mod PageNumbers
+pub mod Pass

@@ -1,6 +1,7 @@
 -- The walk over tables, level by level, for any number of levels. `entry l v` is what the word `v` says in a table of level `l`; `memory a` is the 512 words of the table
 -- at the physical address `a`, none where they are not wholly inside. The sentences are those of document 01, "Translation and mapped runs".
 use Prim.Native.Nat.{ℕ, zero, suc, _+_, _-_, _*_, _/_, _%_, _^_}
+use mathlib.Core.Path.{_≡_}
 use mathlib.Core.Bool.{true, false, cond}
 use mathlib.Core.List.{List}
 use mathlib.Core.Option.{Option, none, some}
@@ -72,3 +73,7 @@ spaceOf levels page = record { page = page; size = spanPages levels; high = 2 ^ 
 -- those below the root table `t`
 abbrev pub walkedPages : (entry : ℕ → ℕ → Entry) (memory : ℕ → Option (List ℕ)) → (levels : ℕ) → List ℕ → Space
 walkedPages entry memory levels t = spaceOf levels (λ x. stateOf (walk entry memory levels t allRights x))
+
+-- a table of a level holds nothing: all its pages are absent, whatever the rights above it
+abbrev pub HoldsNothing : (entry : ℕ → ℕ → Entry) (memory : ℕ → Option (List ℕ)) → (level : ℕ) → List ℕ → Type 0
+HoldsNothing entry memory level t = (r : Rights) (x : ℕ) → stateOf (walk entry memory level t r x) ≡ page.absent

@@ -6,9 +6,7 @@ use image::END;
 use image::ListAnswer;
 use image::RESERVED;
 use image::RUN;
-use image::SearchAnswer;
 use image::list;
-use image::search;
 use libc::STDIN_FILENO;
 use libc::STDOUT_FILENO;
 use listing::Header;
@@ -32,6 +30,9 @@ ghost use Rattle.runs.specs.Sizes.{outputBytes};
 
 // The most runs and stops that are printed.
 const MOST_LINES: usize = 4096;
+
+// The most tables that an image file has.
+const MOST_TABLES: usize = MOST_WORDS / 512;
 
 fn least(a: usize, b: usize) -> usize
     ensures { λ r. ⌜ (r ≤ a) × (r ≤ b) ⌝ }
@@ -85,11 +86,13 @@ fn put_answers(out: &mut [u8], words: &[u64]) -> usize
     used
 }
 
-// The last line where the list is full: the search from the next page on decides. It is not refused, since the list was not.
+// The last line where the list is full: a list of one answer from the next page on decides. It is not refused, since the list was not.
 fn last_line(image: &[u64], base: PhysAddr, root: PhysAddr, next: Page) -> Line {
     let page = next.start_address;
-    let found = search(image, base, root, page);
-    if let SearchAnswer::End = found {
+    let mut words = [0u64; ANSWER_WORDS];
+    let mut empty_tables = [0u8; MOST_TABLES];
+    list(image, base, root, page, &mut empty_tables, &mut words);
+    if words[0] == END {
         end_line()
     } else {
         more_line(page.0)
@@ -102,7 +105,15 @@ fn put_list(out: &mut [u8], image: &[u64], base: PhysAddr, root: PhysAddr) -> us
     ensures { λ r. ⌜ r ≤ outputBytes ⌝ }
 {
     let mut words = [0u64; MOST_LINES * ANSWER_WORDS];
-    let listed = list(image, base, root, VirtAddr(0), &mut words);
+    let mut empty_tables = [0u8; MOST_TABLES];
+    let listed = list(
+        image,
+        base,
+        root,
+        VirtAddr(0),
+        &mut empty_tables,
+        &mut words,
+    );
     match listed {
         ListAnswer::Over(_) => {
             let used = put_answers(out, &words);

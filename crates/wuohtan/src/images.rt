@@ -14,7 +14,7 @@ ghost use Rattle.image.specs.List.{listing};
 ghost use Rattle.image.specs.Search.{searching};
 ghost use Rattle.image.specs.Translate.{translation};
 ghost use Rattle.convention.specs.Convention.{left, leaves};
-ghost use Rattle.convention.specs.Images.{translationWords, searchWords, leftList, leavesList};
+ghost use Rattle.convention.specs.Images.{translationWords, searchWords, leftList, leavesList, LeftBytes};
 
 #[no_mangle]
 pub extern "C" fn wuohtan_translate(
@@ -48,17 +48,18 @@ pub extern "C" fn wuohtan_search(
     )
 }
 
-// The answers go to their own words, five for each.
+// The answers go to their own words, five for each; which tables hold nothing is remembered in bytes.
 #[no_mangle]
 pub extern "C" fn wuohtan_list(
     image: &[u64],
     base: u64,
     root: u64,
     page: u64,
+    empty_tables: &mut [u8],
     answers: &mut [u64],
     out: &mut [u64],
 ) -> u8
-    ensures { λ r. ⌜ leftList (now (answers .exit)) r (now (out .exit)) ≡ leavesList (listing 48 4 (now (image .entry)) base root page (now (answers .entry))) (now (answers .entry)) (now (out .entry)) ⌝ }
+    ensures { λ r. ⌜ (leftList (now (answers .exit)) r (now (out .exit)) ≡ leavesList (listing 48 4 (now (image .entry)) base root page (now (answers .entry))) (now (answers .entry)) (now (out .entry))) × LeftBytes 48 (now (image .entry)) base root page (now (out .entry)) (now («empty_tables» .entry)) (now («empty_tables» .exit)) ⌝ }
 {
     if out.len() < LISTED_WORDS {
         return NO_ROOM;
@@ -68,6 +69,7 @@ pub extern "C" fn wuohtan_list(
         PhysAddr(base),
         PhysAddr(root),
         VirtAddr(page),
+        empty_tables,
         answers,
     );
     give_listed(listed, out)

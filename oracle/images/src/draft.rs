@@ -14,7 +14,7 @@ pub const NO_EXECUTE: u64 = 1 << 63;
 pub const OPEN: u64 = PRESENT | WRITABLE | USER;
 
 /// The address in an entry that names a table.
-const ADDRESS: u64 = (1 << 52) - PAGE_BYTES;
+pub const ADDRESS: u64 = (1 << 52) - PAGE_BYTES;
 
 pub struct Draft {
     pub image: Image,
@@ -65,6 +65,11 @@ impl Draft {
         *self.word(table, index).expect("a table of the image") = entry;
     }
 
+    /// Sets all entries of the table at this address.
+    pub fn fill(&mut self, table: u64, mut entry: impl FnMut(u64) -> u64) {
+        (0..TABLE as u64).for_each(|index| self.set(table, index, entry(index)));
+    }
+
     /// The entry of this level on the way to a page. Absent entries above it get free tables.
     /// `None` if there are no more, or if a large or broken entry is in the way.
     pub fn at(&mut self, page: u64, level: u32) -> Option<&mut u64> {
@@ -82,6 +87,38 @@ impl Draft {
             }
         }
         self.word(table, index(page, level))
+    }
+
+    /// The entry of this level on the way to a page, with a way of its own: the tables on it are
+    /// copied first, so that it changes no other page, also where many entries name one table.
+    /// `None` as above.
+    pub fn apart(&mut self, page: u64, level: u32) -> Option<&mut u64> {
+        let mut table = self.image.root;
+        for upper in (level + 1..=4).rev() {
+            let entry = *self.word(table, index(page, upper))?;
+            if entry & (PRESENT | LARGE) == PRESENT | LARGE {
+                return None;
+            }
+            let own = self.take()?;
+            let flags = match entry & PRESENT {
+                0 => OPEN,
+                _ => {
+                    self.copy(entry & ADDRESS, own)?;
+                    entry & !ADDRESS
+                }
+            };
+            *self.word(table, index(page, upper))? = own | flags;
+            table = own;
+        }
+        self.word(table, index(page, level))
+    }
+
+    /// Copies the entries of a table to another one.
+    fn copy(&mut self, table: u64, to: u64) -> Option<()> {
+        for index in 0..TABLE as u64 {
+            *self.word(to, index)? = *self.word(table, index)?;
+        }
+        Some(())
     }
 
     /// Puts an entry on the way to a page; whether there was a way.

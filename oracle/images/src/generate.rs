@@ -3,6 +3,7 @@
 
 mod bits;
 mod borders;
+mod bounded;
 mod broken;
 mod drawn;
 mod files;
@@ -67,6 +68,12 @@ pub const FAMILIES: &[Family] = &[
     family("last_page", broken::last_page),
     family("self_naming", shared::self_naming),
     family("shared_tables", shared::shared_tables),
+    family("empty_between", shared::empty_between),
+    family("empty_tables", bounded::empty_tables),
+    family("alternating", bounded::alternating),
+    family("each_other", bounded::each_other),
+    family("spread_pages", bounded::spread_pages),
+    family("far_stops", bounded::far_stops),
     family("many_lines", lines::many_lines),
     family("refusals", files::refusals),
     family("wrong_files", files::wrong_files),
@@ -104,6 +111,12 @@ mod tests {
             ("each_bit", &[" 4 reserved", " 3 reserved", " 2 reserved"]),
             ("outside", &[" 4 outside", " 3 outside", " 2 outside"]),
             ("last_page", &["run ffff", "stop ffff"]),
+            ("empty_tables", &["run", "end"]),
+            ("alternating", &["run", "end"]),
+            ("each_other", &["run ffff", "run 0000", "end"]),
+            ("spread_pages", &["run", "stop", "more", "end"]),
+            ("far_stops", &[" 4 reserved", " 3 reserved", " 2 reserved"]),
+            ("far_stops", &[" 4 outside", " 3 outside", " 2 outside"]),
             ("many_lines", &["more", "end"]),
             ("refusals", &["refused 2", "refused 3", "refused 14", "run"]),
             ("wrong_files", &["refused 13", "refused 14"]),

@@ -1,6 +1,6 @@
 //! Translation and lists as one writes them by hand in safe Rust, for the benchmark to measure the
 //! port against. A list is one pass over the tables: absent entries are skipped by their span, runs
-//! grow by whole entries.
+//! grow by whole entries, and a table that held nothing is not read again at that level.
 
 mod calls;
 mod pass;

@@ -8,6 +8,7 @@ pub mod draft;
 pub mod generate;
 pub mod hand_written;
 pub mod image;
+mod layers;
 pub mod library;
 #[cfg(feature = "library")]
 pub mod port;
@@ -15,3 +16,4 @@ pub mod program;
 pub mod reference;
 pub mod tally;
 pub mod worked;
+pub mod worst;

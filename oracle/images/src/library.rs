@@ -3,6 +3,7 @@
 //! They are handed in by address, so that this can be tried with others: `port.rs` has the port's
 //! own, behind the feature `library`.
 
+mod bytes;
 mod list;
 
 use std::{fmt, ptr, slice};
@@ -10,8 +11,10 @@ use std::{fmt, ptr, slice};
 use generator::Generator;
 
 use crate::image::{Image, PAGE_BYTES};
+use crate::reference::looks::Looks;
 use crate::reference::search::{search, Found, Lines, Reason};
-use crate::reference::{accept, page_address, translate, PageState, Rights, PAGES};
+use crate::reference::survey::Survey;
+use crate::reference::{accept, page_address, page_at, translate, PageState, Rights, PAGES};
 
 pub const ANSWERED: u8 = 0;
 pub const NO_ROOM: u8 = 254;
@@ -27,13 +30,16 @@ pub type Function = unsafe extern "C" fn(
     room: usize,
 ) -> u8;
 
-/// The same with answers and their room in words before out.
+/// The same with a byte for each table behind the page, in which the call remembers whether it holds
+/// nothing, and with answers and their room in words before out.
 pub type ListFunction = unsafe extern "C" fn(
     image: *const u64,
     words: usize,
     base: u64,
     root: u64,
     page: u64,
+    empty_tables: *mut u8,
+    tables: usize,
     answers: *mut u64,
     answers_room: usize,
     out: *mut u64,
@@ -78,26 +84,51 @@ pub fn compare(
     image: &Image,
     generator: &mut Generator,
 ) -> Result<u64, Difference> {
-    let places = places(image, generator);
-    for &place in &places {
-        let asked = [
-            ("translate", library.translate, translated(image, place)),
-            ("search", library.search, searched(image, place)),
-        ];
-        for (name, function, reference) in asked {
-            let answer = ask(function, image, place, reference.words.len());
-            if answer.as_ref() != Ok(&reference) {
-                return Err(Difference {
-                    function: name,
-                    place,
-                    reference: format!("{reference:x?}"),
-                    library: answer.map_or_else(|trouble| trouble, |a| format!("{a:x?}")),
-                });
-            }
+    let survey = Survey::of(image);
+    let mut questions = 0;
+    for place in places(&survey, generator) {
+        let reference = translated(image, place);
+        hold("translate", library.translate, image, place, reference)?;
+        questions += 1;
+        if is_short(&survey, place) {
+            let reference = searched(&survey, place);
+            hold("search", library.search, image, place, reference)?;
+            questions += 1;
         }
     }
-    let lists = list::compare(library.list, image, generator)?;
-    Ok(2 * places.len() as u64 + lists)
+    Ok(questions + list::compare(library.list, &survey, generator)?)
+}
+
+fn hold(
+    name: &'static str,
+    function: Function,
+    image: &Image,
+    place: u64,
+    reference: Answer,
+) -> Result<(), Difference> {
+    let answer = ask(function, image, place, reference.words.len());
+    match answer.as_ref() == Ok(&reference) {
+        true => Ok(()),
+        false => Err(Difference {
+            function: name,
+            place,
+            reference: format!("{reference:x?}"),
+            library: answer.map_or_else(|trouble| trouble, |a| format!("{a:x?}")),
+        }),
+    }
+}
+
+/// A search that remembers no table is asked for only if it passes at most so many absent entries: to
+/// pass all 2^36 pages takes minutes.
+const MOST_PASSED: u64 = 1 << 19;
+
+fn is_short(survey: &Survey, place: u64) -> bool {
+    let first = accept(survey.image).and_then(|()| page_at(place));
+    first.map_or(true, |page| {
+        let mut looks = Looks::from(survey, page);
+        looks.next();
+        looks.absent + looks.spared <= MOST_PASSED
+    })
 }
 
 /// What translate should answer: mapped 0 with the physical address, the size and the rights, or
@@ -117,8 +148,8 @@ pub fn translated(image: &Image, address: u64) -> Answer {
 
 /// What the search should answer: end 0, run 1 with page, frame, count and rights, or a stop with
 /// page and level, reserved 2, outside 3.
-pub fn searched(image: &Image, page: u64) -> Answer {
-    answer(search(image, page).map(|found| found_words(found).to_vec()))
+pub fn searched(survey: &Survey, page: u64) -> Answer {
+    answer(search(survey, page).map(|found| found_words(found).to_vec()))
 }
 
 fn found_words(found: Found) -> [u64; 5] {
@@ -169,12 +200,12 @@ const LINES: usize = 12;
 const DRAWN: usize = 8;
 
 /// Numbers to ask about; not all are addresses or pages.
-fn places(image: &Image, generator: &mut Generator) -> Vec<u64> {
+fn places(survey: &Survey, generator: &mut Generator) -> Vec<u64> {
     let mut places = vec![0, 1, (1 << 47) - PAGE_BYTES, u64::MAX - 4095, u64::MAX];
     places.extend([1 << 47, u64::MAX << 47, (u64::MAX << 47) - 1, 1 << 63]);
-    if accept(image).is_ok() {
+    if accept(survey.image).is_ok() {
         let from = generator.below(2) * generator.below(PAGES);
-        for found in Lines::from(image, from).take(LINES) {
+        for found in Lines::from(survey, from).take(LINES) {
             let (Found::Run { page, .. } | Found::Stop { page, .. }) = found else {
                 continue;
             };
@@ -231,11 +262,11 @@ fn place_of(words: &[u64]) -> *const u64 {
     }
 }
 
-/// The same of words that are lent to be written.
-fn place_to_write(words: &mut [u64]) -> *mut u64 {
-    match words {
+/// The same of words or bytes that are lent to be written.
+fn place_to_write<T>(items: &mut [T]) -> *mut T {
+    match items {
         [] => ptr::null_mut(),
-        words => words.as_mut_ptr(),
+        items => items.as_mut_ptr(),
     }
 }
 
@@ -247,7 +278,7 @@ pub(crate) unsafe fn lent<'a>(place: *const u64, len: usize) -> &'a [u64] {
     }
 }
 
-pub(crate) unsafe fn lent_to_write<'a>(place: *mut u64, len: usize) -> &'a mut [u64] {
+pub(crate) unsafe fn lent_to_write<'a, T>(place: *mut T, len: usize) -> &'a mut [T] {
     match len {
         0 => &mut [],
         len => slice::from_raw_parts_mut(place, len),
@@ -326,7 +357,7 @@ mod tests {
 
     stand_ins! {
         own_translate translated;
-        own_search searched;
+        own_search |image, page| searched(&Survey::of(image), page);
         always_end |_, _| Answer { status: ANSWERED, words: vec![0; 5] };
     }
 

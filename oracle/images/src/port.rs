@@ -29,6 +29,8 @@ unsafe extern "C" {
         base: u64,
         root: u64,
         page: u64,
+        empty_tables: *mut u8,
+        tables: usize,
         answers: *mut u64,
         answers_room: usize,
         out: *mut u64,

@@ -1,6 +1,8 @@
 //! A program that is asked as a process: input through a pipe, whole or in pieces, and its whole
 //! standard output.
 
+mod limit;
+
 use std::io::{ErrorKind, Read, Write};
 use std::path::Path;
 use std::process::{Child, ChildStdin, Command, ExitStatus, Stdio};
@@ -8,7 +10,7 @@ use std::sync::mpsc;
 use std::thread;
 use std::time::Duration;
 
-/// How long a program may take for one input.
+/// How long a program may take for one input, also if it only waits.
 const TIME: Duration = Duration::from_secs(60);
 
 /// How long the writer waits between two pieces, so that the program reads them one by one.
@@ -26,6 +28,7 @@ pub fn ask(program: &Path, input: &[u8], cuts: &[usize]) -> Result<String, Strin
         .stderr(Stdio::null())
         .spawn()
         .map_err(|error| format!("{} does not start: {error}", program.display()))?;
+    limit::set(&child);
     let stdin = child.stdin.take().expect("piped");
     let mut stdout = child.stdout.take().expect("piped");
     let (sender, receiver) = mpsc::channel();
@@ -79,6 +82,10 @@ fn end(mut child: Child) -> Result<ExitStatus, String> {
 fn ended_by_itself(status: ExitStatus) -> Result<(), String> {
     match status.code() {
         Some(_) => Ok(()),
+        None if limit::is_over(status) => {
+            let seconds = limit::SECONDS;
+            Err(format!("no end within {seconds} s of computing"))
+        }
         None => Err(format!("it was ended: {status}")),
     }
 }

@@ -6,6 +6,9 @@
 //!   settles them (`looks.rs`):
 //!   - An absent or broken entry is read on the way to each page of its span, and nothing below it
 //!     is read. So all these pages have the state of the one looked at.
+//!   - Under a table that holds nothing all pages are absent. Which tables these are is found
+//!     beforehand (`survey.rs`): few tables can stand for all pages, and to look at each page would
+//!     take hours.
 //!   - Of a 1 GiB page, pieces of 512 pages are looked at on their first and last page only. It is
 //!     assumed that the frames between them lie between.
 //! - The lines of a list come from one pass over these looks, not from one search after the other;
@@ -14,11 +17,15 @@
 //! A page is named by its number, 0 to 2^36 - 1, the high half after the low one, a frame by its
 //! address divided by 4,096.
 
+mod entry;
 pub mod looks;
 pub mod runs;
 pub mod search;
+pub mod survey;
 #[cfg(test)]
 mod tests;
+
+use entry::{bit, span_bytes, Entry};
 
 use crate::image::{Image, PAGE_BYTES, TABLE};
 
@@ -130,7 +137,7 @@ fn holds_table(image: &Image, address: u64) -> bool {
     image.base <= address && address + PAGE_BYTES <= end
 }
 
-/// The state at an address modulo 2^48: level by level, each check in document 01's order.
+/// The state at an address modulo 2^48: level by level.
 fn state_at(image: &Image, place: u64) -> PageState {
     let mut rights = Rights {
         writable: true,
@@ -138,38 +145,26 @@ fn state_at(image: &Image, place: u64) -> PageState {
         no_execute: false,
     };
     let mut table = image.root;
-    for (level, shift) in [(4, 39), (3, 30), (2, 21), (1, 12)] {
-        let span = 1u64 << shift;
+    for level in [4, 3, 2, 1] {
+        let span = span_bytes(level);
         let index = place / span % TABLE as u64;
         let entry = image.words[((table - image.base) / 8 + index) as usize];
-        if !bit(entry, 0) {
-            return PageState::Absent { level };
-        }
-        let large = bit(entry, 7) && [2, 3].contains(&level);
-        if bit(entry, 7) && level == 4 || large && entry % span / (1 << 13) != 0 {
-            return PageState::Reserved { level };
-        }
         rights.writable &= bit(entry, 1);
         rights.user &= bit(entry, 2);
         rights.no_execute |= bit(entry, 63);
-        let address = entry % PHYSICAL;
-        if large || level == 1 {
-            let physical = address / span * span + place % span;
-            let size = span;
-            return PageState::Mapped {
-                physical,
-                size,
-                rights,
-            };
-        }
-        table = address / PAGE_BYTES * PAGE_BYTES;
-        if !holds_table(image, table) {
-            return PageState::Outside { level };
+        match Entry::read(image, entry, level) {
+            Entry::Absent => return PageState::Absent { level },
+            Entry::Reserved => return PageState::Reserved { level },
+            Entry::Outside => return PageState::Outside { level },
+            Entry::Table(lower) => table = lower,
+            Entry::Page => {
+                return PageState::Mapped {
+                    physical: entry % PHYSICAL / span * span + place % span,
+                    size: span,
+                    rights,
+                }
+            }
         }
     }
     unreachable!("an entry of level 1 is absent or mapped")
-}
-
-fn bit(entry: u64, number: u32) -> bool {
-    entry / (1 << number) % 2 == 1
 }

@@ -31,3 +31,13 @@ fn a_wrong_program_is_shown_with_its_input() {
     let example = Path::new(env!("CARGO_MANIFEST_DIR")).join("../../examples/case_l.image");
     assert!(fs::read(file).expect("the input") == fs::read(example).expect("case L"));
 }
+
+#[test]
+fn a_program_that_does_not_end_is_shown_with_its_input() {
+    let endless = Path::new(env!("CARGO_MANIFEST_DIR")).join("tests/endless");
+    let output = images(endless.to_str().expect("a name"), "1");
+    let text = String::from_utf8_lossy(&output.stdout);
+    assert_eq!(output.status.code(), Some(1), "{text}");
+    assert!(text.contains("no end within 2 s of computing"), "{text}");
+    assert!(text.contains(".image"), "{text}");
+}

@@ -5,8 +5,9 @@
 
 use std::process::ExitCode;
 use std::sync::atomic::{AtomicUsize, Ordering};
+use std::sync::mpsc::{self, RecvTimeoutError};
 use std::sync::Mutex;
-use std::time::Instant;
+use std::time::{Duration, Instant};
 use std::{env, fs, thread};
 
 use generator::Generator;
@@ -82,7 +83,7 @@ fn compare(family: &Family, count: u64, seed: u64) -> Compared {
         let Case::Image(image) = family.case(seed, index) else {
             continue;
         };
-        match library::compare(PORT, &image, &mut Generator::new(index)) {
+        match compare_one(&image, index) {
             Ok(asked) => questions += asked,
             Err(difference) => {
                 return Err(Found {
@@ -94,6 +95,31 @@ fn compare(family: &Family, count: u64, seed: u64) -> Compared {
         }
     }
     Ok(questions)
+}
+
+/// How long a case may take, on a machine that has other work too. It would hang the run if a function
+/// did not end.
+const TIME: Duration = Duration::from_secs(300);
+
+fn compare_one(image: &Image, index: u64) -> Result<u64, Difference> {
+    let (sender, receiver) = mpsc::channel();
+    let own = image.clone();
+    thread::spawn(move || {
+        let compared = library::compare(PORT, &own, &mut Generator::new(index));
+        // Nobody hears it after the time is over.
+        let _ = sender.send(compared);
+    });
+    let trouble = match receiver.recv_timeout(TIME) {
+        Ok(compared) => return compared,
+        Err(RecvTimeoutError::Timeout) => format!("no end within {} s", TIME.as_secs()),
+        Err(RecvTimeoutError::Disconnected) => "the comparison failed".into(),
+    };
+    Err(Difference {
+        function: "a call, from",
+        place: 0,
+        reference: "an answer".into(),
+        library: trouble,
+    })
 }
 
 fn report(family: &Family, found: &Found) {

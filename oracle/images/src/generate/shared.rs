@@ -5,6 +5,7 @@ use generator::Generator;
 use super::{drawn, Case};
 use crate::draft::{Draft, OPEN, PRESENT};
 use crate::image::{PAGE_BYTES, TABLE};
+use crate::reference::{span_pages, PAGES};
 
 /// The root names itself, tables name each other in circles, or a table has nothing but its own
 /// name.
@@ -69,6 +70,37 @@ pub fn shared_tables(index: u64, generator: &mut Generator) -> Case {
         let entry = drawn::leaf(1, frame, rights, generator);
         draft.set(upper, drawn::index(generator), entry);
     }
+    drawn::finish(&mut draft, generator);
+    Case::Image(draft.image)
+}
+
+/// Pages up to a border and pages some entries on, with entries between them that name a table with
+/// nothing in it, at the level of the index. An entry before names it too, so that it is known by
+/// then. Mostly the frames go on as if nothing were between.
+pub fn empty_between(index: u64, generator: &mut Generator) -> Case {
+    let level = 2 + (index % 3) as u32;
+    let between = index / 3 % 4;
+    let mut draft = drawn::full_draft(generator);
+    let empty = draft.take().expect("a table");
+    let span = span_pages(level);
+    let border = (drawn::page(generator) / span * span).clamp(2 * span, PAGES - 4 * span);
+    let leaf = 1 + generator.below(u64::from(level) - 1) as u32;
+    let (size, count) = (span_pages(leaf), 1 + generator.below(4));
+    let frame = drawn::frame(3, generator) + 4 * size;
+    let rights = drawn::rights(generator);
+
+    let row = (border - count * size, leaf, count);
+    drawn::stretch(&mut draft, row, (frame - count * size, rights), generator);
+    draft.put(border - 2 * span, level, empty | OPEN);
+    for i in 0..between {
+        draft.put(border + i * span, level, empty | OPEN);
+    }
+    let frame = match generator.below(4) {
+        0 => frame + between * span,
+        _ => frame,
+    };
+    let row = (border + between * span, leaf, count);
+    drawn::stretch(&mut draft, row, (frame, rights), generator);
     drawn::finish(&mut draft, generator);
     Case::Image(draft.image)
 }

@@ -1,6 +1,6 @@
 //! The convention of the port's functions, so that both are called alike.
 
-use super::pass::WORDS;
+use super::pass::{go_on, WORDS};
 use super::{list, translate, Listed, Tables, Translation};
 use crate::library::{lent, lent_to_write, Library, ListFunction, ANSWERED, NO_ROOM};
 
@@ -50,7 +50,7 @@ unsafe extern "C" fn call_search(
     let words = lent(image, words);
     let out = lent_to_write(out, room);
     let mut answer = [0; WORDS];
-    match list(Tables { words, base, root }, page, &mut answer) {
+    match list(Tables { words, base, root }, page, &mut [], &mut answer) {
         Err(number) => number,
         Ok(_) => store(answer, out),
     }
@@ -64,18 +64,21 @@ macro_rules! list_calls {
             base: u64,
             root: u64,
             page: u64,
+            empty_tables: *mut u8,
+            tables: usize,
             answers: *mut u64,
             answers_room: usize,
             out: *mut u64,
             room: usize,
         ) -> u8 {
             let words = lent(image, words);
+            let empty = lent_to_write(empty_tables, tables);
             let answers = lent_to_write(answers, answers_room);
             let out = lent_to_write(out, room);
             if out.len() < 3 {
                 return NO_ROOM;
             }
-            match $list(Tables { words, base, root }, page, answers) {
+            match $list(Tables { words, base, root }, page, empty, answers) {
                 Err(number) => number,
                 Ok(Listed { stored, next }) => {
                     store([stored, next.is_none().into(), next.unwrap_or(0)], out)
@@ -90,13 +93,18 @@ list_calls! {
     call_list_by_searches list_by_searches;
 }
 
-fn list_by_searches(tables: Tables, page: u64, answers: &mut [u64]) -> Result<Listed, u8> {
-    let mut listed = list(tables, page, &mut [])?;
+fn list_by_searches(
+    tables: Tables,
+    page: u64,
+    empty: &mut [u8],
+    answers: &mut [u64],
+) -> Result<Listed, u8> {
+    let mut listed = list(tables, page, empty, &mut [])?;
     for answer in answers.chunks_exact_mut(WORDS) {
         let Some(page) = listed.next else {
             break;
         };
-        listed.next = list(tables, page, answer)?.next;
+        listed.next = go_on(tables, page, empty, answer)?.next;
         listed.stored += 1;
     }
     Ok(listed)

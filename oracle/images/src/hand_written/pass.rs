@@ -20,8 +20,32 @@ pub struct Listed {
     pub next: Option<u64>,
 }
 
-/// The answers of searches from a page on, as many as have room.
-pub fn list(tables: Tables, page: u64, answers: &mut [u64]) -> Result<Listed, u8> {
+/// The answers of searches from a page on, as many as have room. Byte i of `empty` remembers the
+/// levels at which table i of the words holds nothing; a table without a byte is read each time.
+pub fn list(
+    tables: Tables,
+    page: u64,
+    empty: &mut [u8],
+    answers: &mut [u64],
+) -> Result<Listed, u8> {
+    let (root, from) = start(tables, page)?;
+    empty.fill(0);
+    Ok(pass(tables, root, from, empty, answers))
+}
+
+/// The same with what the bytes remember.
+pub fn go_on(
+    tables: Tables,
+    page: u64,
+    empty: &mut [u8],
+    answers: &mut [u64],
+) -> Result<Listed, u8> {
+    let (root, from) = start(tables, page)?;
+    Ok(pass(tables, root, from, empty, answers))
+}
+
+/// The root table and the number of the page, or the first refusal.
+fn start<'a>(tables: Tables<'a>, page: u64) -> Result<(&'a [u64; TABLE], u64), u8> {
     let root = tables.root_table()?;
     if !is_canonical(page) {
         return Err(NOT_CANONICAL);
@@ -29,10 +53,20 @@ pub fn list(tables: Tables, page: u64, answers: &mut [u64]) -> Result<Listed, u8
     if page & 0xfff != 0 {
         return Err(NOT_ALIGNED);
     }
-    let from = (page >> 12) % PAGES;
+    Ok((root, (page >> 12) % PAGES))
+}
+
+fn pass(
+    tables: Tables,
+    root: &[u64; TABLE],
+    from: u64,
+    empty: &mut [u8],
+    answers: &mut [u64],
+) -> Listed {
     let mut pass = Pass {
         tables,
         from,
+        empty,
         run: Run::default(),
         answers: Answers {
             free: answers,
@@ -44,7 +78,7 @@ pub fn list(tables: Tables, page: u64, answers: &mut [u64]) -> Result<Listed, u8
         // A break says only that all is stored that had to be.
         let _ = pass.whole(root);
     }
-    Ok(pass.answers.listed())
+    pass.answers.listed()
 }
 
 /// A run that may still grow. One of no pages is none.
@@ -60,6 +94,7 @@ struct Pass<'a, 'b> {
     tables: Tables<'a>,
     /// Pages before this one are not looked at.
     from: u64,
+    empty: &'b mut [u8],
     run: Run,
     answers: Answers<'b>,
 }
@@ -71,57 +106,88 @@ impl Pass<'_, '_> {
         self.answers.store([0; WORDS], PAGES)
     }
 
-    /// The entries of a table above level 1, which begins with the page `first`.
+    /// The entries of a table above level 1, which begins with the page `first`; whether it holds
+    /// something.
     fn table(
         &mut self,
         table: &[u64; TABLE],
         level: u32,
         first: u64,
         bits: Bits,
-    ) -> ControlFlow<()> {
+    ) -> ControlFlow<(), bool> {
         let span = 1 << (9 * (level - 1));
         let skipped = self.from.saturating_sub(first) / span;
         let mut start = first + skipped * span;
+        let mut holds = false;
         for &entry in &table[skipped as usize..] {
             if entry & PRESENT == 0 {
                 self.close()?;
             } else {
-                self.present(entry, level, start, bits.with(entry))?;
+                holds |= self.present(entry, level, start, bits.with(entry))?;
             }
             start += span;
         }
-        Continue(())
+        Continue(holds)
     }
 
     /// An entry above level 1 that is present, and what is below it.
-    fn present(&mut self, entry: u64, level: u32, start: u64, bits: Bits) -> ControlFlow<()> {
+    fn present(&mut self, entry: u64, level: u32, start: u64, bits: Bits) -> ControlFlow<(), bool> {
         let end = start + (1 << (9 * (level - 1)));
         let page = start.max(self.from);
         match read(entry, level) {
-            Entry::Reserved => self.stop([RESERVED, page, level.into()], end),
+            Entry::Reserved => self.stop([RESERVED, page, level.into()], end)?,
             Entry::Page(address) => {
                 let physical = address + (page - start) * PAGE_BYTES;
-                self.mapped(page, physical, end - page, bits.rights())
+                self.mapped(page, physical, end - page, bits.rights())?;
             }
             Entry::Table(address) => match self.tables.table(address) {
-                None => self.stop([OUTSIDE, page, level.into()], end),
-                Some(lower) if level == 2 => self.pages(lower, start, bits),
-                Some(lower) => self.table(lower, level - 1, start, bits),
+                None => self.stop([OUTSIDE, page, level.into()], end)?,
+                Some(lower) => return self.lower(lower, address, level - 1, start, bits),
             },
         }
+        Continue(true)
+    }
+
+    /// A table that an entry names, unless it is known to hold nothing.
+    fn lower(
+        &mut self,
+        table: &[u64; TABLE],
+        address: u64,
+        level: u32,
+        first: u64,
+        bits: Bits,
+    ) -> ControlFlow<(), bool> {
+        let number = ((address - self.tables.base) / PAGE_BYTES) as usize;
+        let bit = 1 << (level - 1);
+        if self.empty.get(number).is_some_and(|byte| byte & bit != 0) {
+            self.close()?;
+            return Continue(false);
+        }
+        let holds = match level {
+            1 => self.pages(table, first, bits)?,
+            _ => self.table(table, level, first, bits)?,
+        };
+        if !holds && first >= self.from {
+            if let Some(byte) = self.empty.get_mut(number) {
+                *byte |= bit;
+            }
+        }
+        Continue(holds)
     }
 
     /// The entries of a table of level 1: as many at a time as go on from the first.
-    fn pages(&mut self, table: &[u64; TABLE], first: u64, bits: Bits) -> ControlFlow<()> {
+    fn pages(&mut self, table: &[u64; TABLE], first: u64, bits: Bits) -> ControlFlow<(), bool> {
         let skipped = self.from.saturating_sub(first);
         let mut page = first + skipped;
         let mut rest = &table[skipped as usize..];
+        let mut holds = false;
         let read = PRESENT | ADDRESS | bits.deciding();
         while let Some(&entry) = rest.first() {
             let same = if entry & PRESENT == 0 {
                 self.close()?;
                 length(rest, |_, entry| entry & PRESENT == 0)
             } else {
+                holds = true;
                 let due = entry & read;
                 let same = length(rest, |index, entry| {
                     entry & read == due + index * PAGE_BYTES
@@ -133,7 +199,7 @@ impl Pass<'_, '_> {
             page += same as u64;
             rest = &rest[same..];
         }
-        Continue(())
+        Continue(holds)
     }
 
     #[inline(always)]

@@ -3,6 +3,7 @@
 use std::fmt::Write;
 
 use super::search::{Found, Lines, Reason};
+use super::survey::Survey;
 use super::{accept, page_address, Rights, WRONG_FILE};
 use crate::image::{Image, HEADER, MOST_WORDS, PAGE_BYTES};
 
@@ -34,7 +35,8 @@ pub fn image(input: &[u8]) -> Option<Image> {
 fn listed(input: &[u8]) -> Result<String, u8> {
     let image = image(input).ok_or(WRONG_FILE)?;
     accept(&image)?;
-    let mut lines = Lines::from(&image, 0);
+    let survey = Survey::of(&image);
+    let mut lines = Lines::from(&survey, 0);
     let printed: Vec<Found> = lines.by_ref().take(MOST_LINES).collect();
     let mut text: String = printed.iter().map(|&found| line(found)).collect();
 

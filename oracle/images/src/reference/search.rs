@@ -1,10 +1,9 @@
 //! Runs and stops, made from single looks.
 
-use std::iter::Peekable;
-
 use super::looks::{Look, Looks};
+use super::survey::Survey;
 use super::{accept, page_at, span_pages, PageState, Rights, HALF};
-use crate::image::{Image, PAGE_BYTES};
+use crate::image::PAGE_BYTES;
 
 #[derive(Clone, Copy, Debug, PartialEq, Eq)]
 pub enum Reason {
@@ -30,23 +29,32 @@ pub enum Found {
 }
 
 /// What the search answers from the page at this address, or the number of its refusal.
-pub fn search(image: &Image, address: u64) -> Result<Found, u8> {
-    accept(image)?;
+pub fn search(survey: &Survey, address: u64) -> Result<Found, u8> {
+    accept(survey.image)?;
     let page = page_at(address)?;
-    let first = Lines::from(image, page).next();
+    let first = Lines::from(survey, page).next();
     Ok(first.unwrap_or(Found::End))
 }
 
 /// The runs and stops from a page on, without the end. The image is one that is not refused.
-pub struct Lines<'a>(Peekable<Looks<'a>>);
+pub struct Lines<'a> {
+    looks: Looks<'a>,
+    /// The look that ended the line before.
+    ahead: Option<Look>,
+}
 
 impl<'a> Lines<'a> {
-    pub fn from(image: &'a Image, page: u64) -> Lines<'a> {
-        Lines::of(Looks::from(image, page))
+    pub fn from(survey: &'a Survey, page: u64) -> Lines<'a> {
+        Lines::of(Looks::from(survey, page))
     }
 
     pub fn of(looks: Looks<'a>) -> Lines<'a> {
-        Lines(looks.peekable())
+        Lines { looks, ahead: None }
+    }
+
+    /// What was passed for the lines so far: the looks that found absent pages, and those spared.
+    pub fn passed(&self) -> (u64, u64) {
+        (self.looks.absent, self.looks.spared)
     }
 }
 
@@ -54,8 +62,13 @@ impl Iterator for Lines<'_> {
     type Item = Found;
 
     fn next(&mut self) -> Option<Found> {
-        let mut line = Found::of(self.0.next()?);
-        while let Some(look) = self.0.next_if(|&look| line.goes_on_with(look)) {
+        let first = self.ahead.take().or_else(|| self.looks.next());
+        let mut line = Found::of(first?);
+        for look in self.looks.by_ref() {
+            if !line.goes_on_with(look) {
+                self.ahead = Some(look);
+                break;
+            }
             line.lengthen(look.pages);
         }
         Some(line)

@@ -3,6 +3,7 @@
 use super::looks::Looks;
 use super::runs::output;
 use super::search::{search, Found, Lines, Reason};
+use super::survey::Survey;
 use super::*;
 use crate::draft::{page, Draft, LARGE, NO_EXECUTE, OPEN, PRESENT, USER, WRITABLE};
 use crate::generate::{Case, FAMILIES};
@@ -198,7 +199,10 @@ fn refusals_in_order() {
     };
     // A place that would be refused is refused only after base, root and image.
     for place in [0, 1, 1 << 47, (1 << 47) + 1] {
-        let both = |image: &Image| (translate(image, place).err(), search(image, place).err());
+        let both = |image: &Image| {
+            let searched = search(&Survey::of(image), place);
+            (translate(image, place).err(), searched.err())
+        };
         for (number, refusal) in bad {
             let refused = (Some(refusal), Some(refusal));
             assert_eq!(both(&image(number, 1 << 60)), refused);
@@ -214,6 +218,7 @@ fn refusals_in_order() {
         assert_eq!(both(&short), (Some(14), Some(14)));
     }
     let good = image(BASE, BASE);
+    let good = Survey::of(&good);
     assert_eq!(search(&good, 1 << 47), Err(1));
     assert_eq!(search(&good, (1 << 47) + 1), Err(1));
     assert_eq!(search(&good, 1), Err(3));
@@ -292,7 +297,7 @@ fn a_search_from_within() {
         count: 510,
         rights,
     };
-    assert_eq!(search(&image, 0x3000), Ok(run));
+    assert_eq!(search(&Survey::of(&image), 0x3000), Ok(run));
     let mut draft = draft(2);
     draft.put(0, 4, OPEN | LARGE);
     let stop = Found::Stop {
@@ -300,12 +305,12 @@ fn a_search_from_within() {
         level: 4,
         reason: Reason::Reserved,
     };
-    assert_eq!(search(&draft.image, 0x9000), Ok(stop));
+    assert_eq!(search(&Survey::of(&draft.image), 0x9000), Ok(stop));
     assert_eq!(stop.next_page(), Some(1 << 27));
 }
 
 /// Some cases of each family that are not refused.
-fn some_images() -> impl Iterator<Item = Image> {
+pub fn some_images() -> impl Iterator<Item = Image> {
     let cases = FAMILIES.iter().flat_map(|family| {
         let cases = (0..24).map(|index| family.case(5, index));
         cases.filter_map(|case| match case {
@@ -319,10 +324,11 @@ fn some_images() -> impl Iterator<Item = Image> {
 #[test]
 fn lines_are_what_searches_give_one_after_the_other() {
     for image in some_images() {
+        let survey = Survey::of(&image);
         let mut next = Some(0);
-        for line in Lines::from(&image, 0).take(300) {
+        for line in Lines::from(&survey, 0).take(300) {
             let from = page_address(next.expect("a page that was left"));
-            assert_eq!(search(&image, from), Ok(line));
+            assert_eq!(search(&survey, from), Ok(line));
             next = line.next_page();
         }
     }
@@ -332,9 +338,10 @@ fn lines_are_what_searches_give_one_after_the_other() {
 fn pieces_are_what_single_looks_give() {
     let few = |line: &Found| !matches!(line, Found::Run { count, .. } if *count > 1 << 20);
     for image in some_images() {
-        let lines = Lines::from(&image, 0).take(50);
+        let survey = Survey::of(&image);
+        let lines = Lines::from(&survey, 0).take(50);
         let lines: Vec<_> = lines.take_while(few).collect();
-        let singly = Lines::of(Looks::singly(&image, 0));
+        let singly = Lines::of(Looks::singly(&survey, 0));
         assert!(singly.take(lines.len()).eq(lines.iter().copied()));
     }
 }
@@ -344,8 +351,9 @@ fn pieces_are_what_single_looks_give() {
 #[test]
 fn pages_left_out_are_settled_by_the_look_before() {
     for image in some_images() {
+        let survey = Survey::of(&image);
         let mut passed = 0;
-        for look in Looks::from(&image, 0).take(60) {
+        for look in Looks::from(&survey, 0).take(60) {
             let left_out = [
                 passed,
                 look.page.saturating_sub(1),

@@ -1,174 +1,149 @@
 -- `list` writes the answers of the searches that have room.
-use Prim.Native.Nat.{ℕ, _-_, _^_}
-use mathlib.Core.Path.{_≡_, sym, ap, _∙_}
-use mathlib.Core.Bool.{true}
-use mathlib.Core.List.{List}
-use mathlib.Core.Option.{some}
+use Prim.Native.Nat.{ℕ}
+use mathlib.Core.Path.{_≡_, refl, sym, ap, _∙_, subst}
+use mathlib.Core.List.{List, [], _∷_}
 use native.Mathlib.Omega.{arith}
 use borrow.Author.Needs.{needs}
 use denote.Ref.{now}
+use lib.ListN.{length, length-replicate}
 use Rattle.answer.specs.Outcome.{Outcome, gives}
-use Rattle.mapping.specs.Pages.{Space, Spanned}
-use Rattle.mapping.specs.Search.{Answer}
-use Rattle.mapping.specs.Search as runs
-use Rattle.mapping.proofs.Walk.{spanned}
-use Rattle.addr.specs.Item.{Item}
-use Rattle.image.specs.Entry.{entry}
-use Rattle.image.specs.Memory.{tableAt, tableWords}
-use Rattle.image.specs.Translate.{pageNumber, rootTable}
-use Rattle.image.specs.Search.{imagePages}
-use Rattle.image.specs.Found.{foundOf, OfAnswer}
-use Rattle.image.specs.List.{settled, listing}
+use Rattle.mapping.specs.Pages.{Space}
+use Rattle.mapping.specs.Walk.{Entry, walkedPages}
 use Rattle.addr.proofs.Item.{refused-unless}
-use Rattle.image.proofs.Refused.{root-inside, search-passed}
-use Rattle.image.proofs.ListKept.{kept}
-use Rattle.image.proofs.ListTurns.{Turn, first-turn, later, next-turn, over, full}
-use Rattle.image.proofs.ListTurns as turns
+use Rattle.image.specs.EmptyTables.{TrueOf}
+use Rattle.image.specs.Entry.{entryBy}
+use Rattle.image.specs.List.{settled, listing}
+use Rattle.image.specs.Memory.{segmentsIn, tableAt, tableFrom}
+use Rattle.image.specs.Root.{SearchAt}
+use Rattle.image.specs.Search.{searchRefusal}
+use Rattle.image.specs.Translate.{pageNumber}
+use Rattle.image.specs.declared.refusal.Root.{Root}
+use Rattle.image.specs.declared.refusal.Root.the-variants as root
+use Rattle.image.proofs.Fields.{no-mask}
+use Rattle.image.proofs.Places.{place-inside}
+use Rattle.image.proofs.Refused.{search-segment, pages-placed}
+use Rattle.image.proofs.Remembering.{forgotten-true}
 use Rattle.image.proofs.list_searches.list.Statement.{statement}
 use Rattle.image.proofs.list_searches.list.Tie as tie
 
-abbrev Inv-loop : tie.InvT-loop
-Inv-loop image base root out₀ refused at₀ written₀ used₀ out at written used =
-    (t : List ℕ) × (tableAt image (base .0) (root .0) ≡ some t) × Turn (imagePages 4 image (base .0) t) at₀ out₀ out at written used
+slice-aggregate-search-place : tie.Need-slice-aggregate-search-place
+slice-aggregate-search-place c = refl
 
-abbrev μ-loop : tie.MeasureT-loop
-μ-loop image base root out₀ refused at₀ written₀ used₀ out at written used = 2 ^ 36 - at
+search-place-requires : tie.Need-search-place-requires
+search-place-requires c κs = omega arith
 
-search-refusal-requires : tie.Need-search-refusal-requires Inv-loop μ-loop
-search-refusal-requires c κs = search needs
+enum-known-place : tie.Need-enum-known-place
+enum-known-place c = search needs
 
-returns : tie.Need-returns Inv-loop μ-loop
-unfolding listing
-returns c =
-    let a = c .before .before .before .before .args in
-    let e = c .before .search-refusal .ensures in
-    rw e (ap (λ (o : Outcome Space). settled 48 o (pageNumber 48 (a .page .0)) (now (a .out))) (refused-unless _ _ (rw e at (c .if1 .taken))))
+enum-known-place-2 : tie.Need-enum-known-place-2
+enum-known-place-2 c = search needs
 
-page-number-requires : tie.Need-page-number-requires Inv-loop μ-loop
+forget-requires : tie.Need-forget-requires
+forget-requires c κs = search needs
+
+slice-aggregate-list-from : tie.Need-slice-aggregate-list-from
+slice-aggregate-list-from c = refl
+
+page-number-requires : tie.Need-page-number-requires
 page-number-requires c κs = search needs
 
-loop-holds : tie.Need-loop-holds Inv-loop μ-loop
-loop-holds c =
-    let a = c .before .before .before .before .before .args in
-    let z = sym (c .before .before .search-refusal .ensures) ∙ c .before .if1 .left in
-    let i = root-inside (now (a .image)) (a .base .0) (a .root .0) (search-passed (now (a .image)) (a .base .0) (a .root .0) 48 (a .page .0) z .0) in
-    let t = rootTable (now (a .image)) (a .base .0) (a .root .0) in
-    (t, i, first-turn (imagePages 4 (now (a .image)) (a .base .0) t) (c .page-number .result) (now (a .out)) (omega arith))
+-- what is known of the root
+module _ (c : tie.After-search-place) where
+  abbrev given : tie.Start
+  given = c .before .before .before .before .before
 
--- the pages of the image and the answer of the search, at a turn of the loop
-abbrev pages : tie.At-loop Inv-loop μ-loop → Space
-pages c = let a = c .before .before .before .before .before .before .args in imagePages 4 (now (a .image)) (a .base .0) (c .loop .inv .0)
+  abbrev Told : Root → Type 0
+  Told r =
+      let a = given .args in
+      SearchAt (segmentsIn (a .base .0 ∷ length (now (a .image)) ∷ [])) (a .base .0) (a .root .0) (a .page .0) r
 
-abbrev answer : tie.At-loop Inv-loop μ-loop → Answer
-answer c = runs.search (pages c) (c .loop .at)
+  told : (r : Root) → c .search-place .result ≡ r → Told r
+  told r e = subst (λ (s : Root). Told s) e (c .search-place .ensures)
 
-whole : (c : tie.At-loop Inv-loop μ-loop) → Spanned (pages c)
-whole c =
-    let a = c .before .before .before .before .before .before .args in
-    spanned (entry 52 true) (tableAt (now (a .image)) (a .base .0)) 4 (c .loop .inv .0)
+-- it is not refused
+module _ (c : tie.After-place2) where
+  abbrev start : tie.Start
+  start = given (c .before .before)
 
-given : (c : tie.At-loop Inv-loop μ-loop)
-    → (let a = c .before .before .before .before .before .before .args in
-    settled 48 (gives (pages c)) (c .before .page-number .result) (now (a .out)) ≡ listing 48 4 (now (a .image)) (a .base .0) (a .root .0) (a .page .0) (now (a .out)))
-unfolding listing
-given c =
-    let a = c .before .before .before .before .before .before .args in
-    let e : tableWords (tableAt (now (a .image)) (a .base .0) (a .root .0)) ≡ c .loop .inv .0 = ap tableWords (c .loop .inv .1) in
-    rw (sym (c .before .before .before .search-refusal .ensures) ∙ c .before .before .if1 .left, e, c .before .page-number .ensures)
+  abbrev place : ℕ
+  place = c .place2 .given .0 .0
 
-sub-if2 : tie.Need-sub-if2 Inv-loop μ-loop
-sub-if2 c = omega (arith, turns.same-length (c .before .loop .inv .2))
+  -- the pages below it
+  abbrev pages : Space
+  pages = walkedPages (entryBy 0) (tableAt (now (start .args .image)) (start .args .base .0)) 4 (tableFrom (now (start .args .image)) place)
 
-numbered-page-requires : tie.Need-numbered-page-requires Inv-loop μ-loop
-numbered-page-requires c κs = search needs
+  at-root : Told (c .before .before) (root.At place)
+  at-root = told (c .before .before) (root.At place) (c .place2 .given .1)
 
-same-length : tie.Need-same-length Inv-loop μ-loop
-same-length c = turns.same-length (c .before .before .before .loop .inv .2)
+  passes : searchRefusal 48 (now (start .args .image)) (start .args .base .0) (start .args .root .0) (start .args .page .0) ≡ 0
+  passes = sym (search-segment (now (start .args .image)) (start .args .base .0) (start .args .root .0) (start .args .page .0)) ∙ at-root .0
 
-returns-2 : tie.Need-returns-2 Inv-loop μ-loop
-returns-2 c =
-    let b = c .before .before .before in
-    ap (λ (k : Item). record { answer = gives (record { written = b .loop .written; next = some k }); words = b .loop .out }) (c .numbered-page .ensures)
-    ∙ full (b .loop .inv .2) (c .before .before .loop-test .taken) (c .before .if2 .taken)
-    ∙ given b
-
-find-requires : tie.Need-find-requires Inv-loop μ-loop
-find-requires c κs = search needs
-
-found : (c : tie.After-find Inv-loop μ-loop) → c .find .result ≡ foundOf (answer (c .before .before .before))
-found c = let (t, i, u) = c .before .before .before .loop .inv in c .find .ensures t i
-
-answers : (c : tie.After-find Inv-loop μ-loop) → OfAnswer (c .find .result)
-answers c =
-    let b = c .before .before .before in
-    let a = b .before .before .before .before .before .before .args in
-    let (t, i, u) = b .loop .inv in
-    (answer b, kept (now (a .image)) (a .base .0) t (b .loop .at) (u .inside), found c)
-
-store-requires : tie.Need-store-requires Inv-loop μ-loop
-store-requires c κs = (omega (arith, turns.same-length (c .before .before .before .before .loop .inv .2)), answers (c .before))
-
-next-page-requires : tie.Need-next-page-requires Inv-loop μ-loop
-next-page-requires c κs = answers (c .before .before .before .before)
-
-add-written : tie.Need-add-written Inv-loop μ-loop
-add-written c = search needs
-
-add-used : tie.Need-add-used Inv-loop μ-loop
-add-used c = search needs
-
-leaves : (c : tie.After-next-page Inv-loop μ-loop)
-    → (let b = c .before .before .before .before .before .before .before .before in c .next-page .result ≡ runs.next (pages b) (answer b))
-leaves c =
-    let k = c .before .before .before .before .before in
-    let b = k .before .before .before in
-    let a = b .before .before .before .before .before .before .args in
-    c .next-page .ensures (now (a .image)) (a .base .0) (b .loop .inv .0) (answer b) (found k)
-
-loop-less : tie.Need-loop-less Inv-loop μ-loop
-loop-less c =
-    let test = c .before .before .before .before .before .before .before in
-    let b = test .before in
-    omega (arith, test .loop-test .taken, leaves c, later (b .loop .inv .2) (whole b) (test .loop-test .taken))
-
-loop-again : tie.Need-loop-again Inv-loop μ-loop
-loop-again c =
-    let store = c .before .before .before .store in
-    let k = c .before .before .before .before .before in
-    let b = k .before .before .before in
-    let (t, i, u) = b .loop .inv in (
-      t,
-      i,
-      rw (leaves c)
-          (next-turn u (whole b) (k .before .before .loop-test .taken) (store .last .0) (omega (arith, k .before .if2 .left, turns.same-length u)) (store .ensures (answer b) (found k))),
+list-from-requires : tie.Need-list-from-requires
+list-from-requires c κs =
+    let f = c .before .before .before .before .before .before in
+    let k = f .before .before .before in
+    let a = start k .args in
+    let memory = tableAt (now (a .image)) (a .base .0) in
+    let i = place-inside (segmentsIn (a .base .0 ∷ length (now (a .image)) ∷ [])) 0 (a .root .0) (place k) (at-root k .1) in (
+      omega (arith, c .before .before .page-number .ensures),
+      omega (arith, i),
+      omega arith,
+      subst (λ (l : List ℕ). TrueOf (entryBy 0) memory (now (a .image)) l) (sym (f .forget .ensures)) (forgotten-true (entryBy 0) memory (now (a .image)) (length (now (a .empty-tables)))),
     )
 
-same-length-2 : tie.Need-same-length-2 Inv-loop μ-loop
-same-length-2 c = turns.same-length (c .before .loop .inv .2)
+returns : tie.Need-returns
+unfolding listing
+returns c =
+    let k = c .before .before .before in
+    let a = given k .args in
+    let n = c .before .place .given .0 .0 in
+    let r = told k (root.Refused n) (c .before .place .given .1) in
+    let e : searchRefusal 48 (now (a .image)) (a .base .0) (a .root .0) (a .page .0) ≡ n
+    = sym (search-segment (now (a .image)) (a .base .0) (a .root .0) (a .page .0)) ∙ r .0 in (
+      rw e (ap (λ (o : Outcome Space). settled 48 o (pageNumber 48 (a .page .0)) (now (a .out))) (refused-unless n _ (λ z. omega (arith, r .1)))),
+      record { as-long = refl; untouched = λ m. refl; true-of = λ z. absurd (omega (arith, e, z, r .1)) },
+    )
 
-returns-3 : tie.Need-returns-3 Inv-loop μ-loop
-returns-3 c = over (c .before .loop .inv .2) (c .loop-test .left) ∙ given (c .before)
+same-length : tie.Need-same-length
+same-length c = search needs
+
+same-length-2 : tie.Need-same-length-2
+same-length-2 c = search needs
+
+returns-2 : tie.Need-returns-2
+unfolding listing
+returns-2 c =
+    let l = c .before .before .before .before in
+    let n = l .before .before .before in
+    let f = n .before .before .before .before in
+    let k = f .before .before .before in
+    let a = start k .args in
+    let out = now (a .out) in
+    let q : settled 48 (gives (pages k)) (n .page-number .result) out ≡ listing 48 4 (now (a .image)) (a .base .0) (a .root .0) (a .page .0) out
+    = ap (λ (p : ℕ). settled 48 (gives (pages k)) p out) (n .page-number .ensures)
+    ∙ ap (λ (s : Space). settled 48 (gives s) (pageNumber 48 (a .page .0)) out) (pages-placed (now (a .image)) (a .base .0) (a .root .0) (place k) (at-root k .1))
+    ∙ rw (passes k) in (
+      l .list-from .ensures .0 ∙ q,
+      record {
+        as-long = l .list-from .ensures .1 ∙ ap length (f .forget .ensures) ∙ length-replicate (length (now (a .empty-tables))) 0;
+        untouched = λ m. absurd (m (passes k));
+        true-of = λ z. subst (λ (by : ℕ → ℕ → Entry). TrueOf by (tableAt (now (a .image)) (a .base .0)) (now (a .image)) (l .list-from .last .1 .1 .1 .1 .0)) no-mask (l .list-from .ensures .2);
+      },
+    )
 
 pub list-spec : {M : Type 1} → statement M
 list-spec =
     tie.close
     (tie.spec
-    Inv-loop
-    μ-loop
-    search-refusal-requires
-    returns
+    slice-aggregate-search-place
+    search-place-requires
+    enum-known-place
+    enum-known-place-2
+    forget-requires
+    slice-aggregate-list-from
     page-number-requires
-    loop-holds
-    sub-if2
-    numbered-page-requires
+    list-from-requires
+    returns
     same-length
-    returns-2
-    find-requires
-    store-requires
-    next-page-requires
-    add-written
-    add-used
-    loop-less
-    loop-again
     same-length-2
-    returns-3)
+    returns-2)

@@ -1,5 +1,5 @@
 -- `store` stores an answer's five words.
-use Prim.Native.Nat.{ℕ, _+_}
+use Prim.Native.Nat.{ℕ, _+_, _^_}
 use mathlib.Core.Path.{ap, _∙_}
 use mathlib.Core.List.{List, _++_}
 use mathlib.Core.Logic.{⊎-elim}
@@ -13,10 +13,10 @@ use Rattle.image.proofs.list_searches.store.Statement.{statement}
 use Rattle.image.proofs.list_searches.store.Tie as tie
 
 numbered-page-requires : tie.Need-numbered-page-requires
-numbered-page-requires c κs = let s = c .before in page-bound (s .args .found) (s .pre .1)
+numbered-page-requires c κs = let s = c .before in page-bound (s .args .found) (2 ^ 36) (s .pre .1) (omega arith)
 
 mul-place : tie.Need-mul-place
-mul-place c = let s = c .before .before .before .before in omega (arith, run-bounds (s .args .found) (s .pre .1) (c .before .if1 .taken))
+mul-place c = let s = c .before .before .before .before in omega (arith, run-bounds (s .args .found) (2 ^ 36) (s .pre .1) (c .before .if1 .taken))
 
 mul-out : tie.Need-mul-out
 mul-out c = search needs

@@ -1,5 +1,6 @@
 -- `answer_of` reports what an answer's numbers say.
-use Prim.Native.Nat.{ℕ}
+use Prim.Native.Nat.{ℕ, _^_}
+use native.Mathlib.Omega.{arith}
 use mathlib.Core.Path.{_≡_, ap, _∙_}
 use borrow.Author.Needs.{needs}
 use Rattle.answer.specs.Outcome.{Outcome, gives}
@@ -17,10 +18,10 @@ returns : tie.Need-returns
 returns c a e = reported-end (c .before .args .found) a e (c .if1 .taken)
 
 numbered-page-requires : tie.Need-numbered-page-requires
-numbered-page-requires c κs = let s = c .before in page-bound (s .args .found) (s .pre)
+numbered-page-requires c κs = let s = c .before in page-bound (s .args .found) (2 ^ 36) (s .pre) (omega arith)
 
 numbered-frame-requires : tie.Need-numbered-frame-requires
-numbered-frame-requires c κs = let s = c .before .before .before in run-bounds (s .args .found) (s .pre) (c .if2 .taken) .1
+numbered-frame-requires c κs = let s = c .before .before .before in run-bounds (s .args .found) (2 ^ 36) (s .pre) (c .if2 .taken) .1
 
 rights-from-requires : tie.Need-rights-from-requires
 rights-from-requires c κs = search needs

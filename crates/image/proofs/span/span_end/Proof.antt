@@ -22,7 +22,7 @@ sub-result-2 c = omega (arith, masked c, div-add-mod' (c .args .page) (spanPages
 
 add-result : tie.Need-add-result
 add-result c =
-    let b : spanPages (c .args .below) ≤ 2 ^ 36 = pow-mono {i = 9 * c .args .below} {j = 36} (omega arith) in
+    let b : spanPages (c .args .below) ≤ 2 ^ 45 = pow-mono {i = 9 * c .args .below} {j = 45} (omega arith) in
     omega (arith, c .pre .0)
 
 returns : tie.Need-returns

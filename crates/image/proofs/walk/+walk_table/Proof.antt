@@ -1,58 +1,66 @@
 -- `walk_table` meets its contract.
+use Prim.Native.Nat.{ℕ, _+_, _-_, _*_, _/_, _%_, _^_, _≤_, _<_}
 use mathlib.Core.Path.{_≡_, sym, ap, _∙_, subst}
-use mathlib.Core.Bool.{true}
 use mathlib.Core.List.{List}
-use Prim.Native.Nat.{ℕ, _+_, _-_, _*_, _%_, _^_, _<_}
+use mathlib.Core.Option.{Option, none, some}
 use native.Mathlib.Omega.{arith}
-use native.Mathlib.Nat.{mod-lt}
+use native.Mathlib.Nat.{mod-lt, one-mul, mod-eq-of-lt}
 use denote.Ref.{now}
-use lib.Bits.{bitAnd, bitOr}
-use lib.ListN.{length, take, drop}
-use lib.Pow.{pow-pos}
+use lib.Bits.{bitAnd, and-mask}
+use lib.Dec.{lit<}
+use lib.ListN.{length, getD, take, drop}
+use lib.Pow.{pow-pos, pow-lt}
 use borrow.Author.Needs.{needs}
 use borrow.Fn.Kinds.{In}
 use borrow.Fn.PlainCycle.{Measures, is, falls, and}
-use Rattle.mapping.specs.Walk.{joined, spanPages, follow, walk}
-use Rattle.image.specs.Entry.{entry, rightsOf}
-use Rattle.image.specs.Memory.{tableAt}
-use Rattle.image.specs.Packed.{rightsBits, rightsOver, packed}
+use Rattle.mapping.specs.Walk.{Walked, mapped, joined, spanPages, follow, walk}
+use Rattle.image.specs.Entry.{rightsOf, entryBy}
+use Rattle.image.specs.Memory.{placeFrom, placeOf, segmentsIn, tableFrom, tableIn, tableWhere, total}
+use Rattle.image.specs.Packed.{rightsOver, packed}
 use Rattle.image.specs.declared.look.Look.{Look}
 use Rattle.image.specs.declared.look.Look.the-variants as look
-use Rattle.image.proofs.Looks.{reads, walk-level, Sound, look-sound}
-use Rattle.image.proofs.RightsBits.{rights-step, bits-lt}
-use Rattle.image.proofs.Tables.{whole-part}
+use Rattle.image.proofs.Looks.{reads, walk-word, Sound, sound-entry}
+use Rattle.image.proofs.Places.{whole-part, table-length, place-inside}
+use Rattle.image.proofs.RightsBits.{rights-step}
 use Rattle.image.proofs.walk.walk_table.Reads as walk-table
 use Rattle.image.proofs.walk.walk_table.Kinds as walk-table-kinds
 use Rattle.image.proofs.walk.+walk_table.Lts-walk_table as walk-table-lts
-use Rattle.image.proofs.look.look_at.Reads as look-at-reads
-use Rattle.image.proofs.rights.rights_bits.Reads as rights-bits-reads
-use Rattle.image.proofs.span.span_pages.Reads as span-pages-reads
-use Rattle.image.proofs.span.within_span.Reads as within-span-reads
+use Rattle.image.proofs.look.look_word.Reads as look-word-reads
+use Rattle.image.proofs.memory.table_at.Reads as table-at-reads
+use Rattle.image.proofs.memory.table_place.Reads as table-place-reads
+use Rattle.image.proofs.rights.allows.Reads as allows-reads
+use Rattle.image.proofs.walk.packed_page.Reads as packed-page-reads
+use Rattle.image.proofs.walk.walk_page.Reads as walk-page-reads
 use Rattle.image.proofs.walk.+walk_table.{statement}
 use Rattle.image.proofs.walk.+walk_table.Tie.{close}
 
-abbrev μ-walk-table : Measures 1 walk-table-kinds.ps ℕ
+-- the level
+abbrev μ-walk-table : Measures 2 walk-table-kinds.ps ℕ
 μ-walk-table κs a = a .1 .1 .1 .0
 
-abbrev walk-table-at : ℕ → In 1 walk-table-kinds.ps
+abbrev walk-table-at : ℕ → In 2 walk-table-kinds.ps
 walk-table-at t =
-    and 1 walk-table-kinds.ps (is 1 walk-table-kinds.ps μ-walk-table t) walk-table.Pre
+    and 2 walk-table-kinds.ps (is 2 walk-table-kinds.ps μ-walk-table t) walk-table.Pre
 
-abbrev walk-table-below : ℕ → In 1 walk-table-kinds.ps
+abbrev walk-table-below : ℕ → In 2 walk-table-kinds.ps
 walk-table-below t =
-    and 1 walk-table-kinds.ps (falls 1 walk-table-kinds.ps _<_ μ-walk-table t) walk-table.Pre
+    and 2 walk-table-kinds.ps (falls 2 walk-table-kinds.ps _<_ μ-walk-table t) walk-table.Pre
 
 -- what the calls ask and tell
 abbrev calls : ℕ → walk-table-lts.Claims
 calls t = (
-  look-at-reads.Asked,
-  look-at-reads.Learnt,
-  span-pages-reads.Asked,
-  span-pages-reads.Learnt,
-  within-span-reads.Asked,
-  within-span-reads.Learnt,
-  rights-bits-reads.Asked,
-  rights-bits-reads.Learnt,
+  table-at-reads.Asked,
+  table-at-reads.Learnt,
+  look-word-reads.Asked,
+  look-word-reads.Learnt,
+  allows-reads.Asked,
+  allows-reads.Learnt,
+  packed-page-reads.Asked,
+  packed-page-reads.Learnt,
+  table-place-reads.Asked,
+  table-place-reads.Learnt,
+  walk-page-reads.Asked,
+  walk-page-reads.Learnt,
   walk-table-below t,
   walk-table.Post,
 )
@@ -60,41 +68,65 @@ calls t = (
 walk-table-sub-below : (t : ℕ) → walk-table-lts.Need-sub-below (calls t) (walk-table-at t) walk-table.Post
 walk-table-sub-below t c = search needs
 
-walk-table-look-at-requires : (t : ℕ) → walk-table-lts.Need-look-at-requires (calls t) (walk-table-at t) walk-table.Post
-walk-table-look-at-requires t c κs = search needs
+walk-table-table-at-requires : (t : ℕ) → walk-table-lts.Need-table-at-requires (calls t) (walk-table-at t) walk-table.Post
+walk-table-table-at-requires t c κs = search needs
 
-module _ (t : ℕ) (c : walk-table-lts.After-look-at (calls t) (walk-table-at t) walk-table.Post) (l : Look) (e : c .look-at .result ≡ l) where
-  -- what the contract says, by what was looked up
-  told : (let a = c .before .before .args in
-      let memory = tableAt (now (a .image)) (a .base) in
-      let r = rightsOver (a .all) (a .any) in
-      packed (reads memory (a .level - 1) r (a .page) l)
-      ≡ packed (follow (memory (a .table)) (a .level + 1) (λ t′. walk (entry 52 true) memory (a .level) t′ r (a .page))))
-  told =
-      let a = c .before .before .args in
-      let memory = tableAt (now (a .image)) (a .base) in
-      let r = rightsOver (a .all) (a .any) in
-      let h : a .level ≡ a .level - 1 + 1 = omega (arith, c .before .before .pre .1 .0) in
-      ap (λ (k : Look). packed (reads memory (a .level - 1) r (a .page) k)) (sym e ∙ c .look-at .ensures)
-      ∙ sym (ap packed (walk-level memory (a .level - 1) r (a .page) (a .level) (a .table) h))
+walk-table-mul-look-word : (t : ℕ) → walk-table-lts.Need-mul-look-word (calls t) (walk-table-at t) walk-table.Post
+walk-table-mul-look-word t c = search needs
 
-  sound : Sound (c .before .before .args .level - 1) l
-  sound =
-      let a = c .before .before .args in
-      subst (λ (k : Look). Sound (a .level - 1) k) (sym (c .look-at .ensures) ∙ e)
-      (look-sound (tableAt (now (a .image)) (a .base) (a .table)) (a .level - 1) (a .page))
+walk-table-shr-look-word : (t : ℕ) → walk-table-lts.Need-shr-look-word (calls t) (walk-table-at t) walk-table.Post
+walk-table-shr-look-word t c = search needs
+
+walk-table-mul-look-word-2 : (t : ℕ) → walk-table-lts.Need-mul-look-word-2 (calls t) (walk-table-at t) walk-table.Post
+walk-table-mul-look-word-2 t c = search needs
+
+walk-table-shared-slice-read-look-word : (t : ℕ) → walk-table-lts.Need-shared-slice-read-look-word (calls t) (walk-table-at t) walk-table.Post
+walk-table-shared-slice-read-look-word t c =
+    let s = c .before .before .before .before in
+    let a = s .args in
+    let i : a .page / 2 ^ (9 * (a .level - 1)) % 512 < 512 = mod-lt (a .page / 2 ^ (9 * (a .level - 1))) (lit< tt) in
+    let l : length (now (c .before .table-at .result)) ≡ length (tableFrom (now (a .words)) (a .place)) = ap length (c .before .table-at .ensures) in
+    omega (arith, table-length (now (a .words)) (a .place) (s .pre .1 .2))
+
+walk-table-look-word-requires : (t : ℕ) → walk-table-lts.Need-look-word-requires (calls t) (walk-table-at t) walk-table.Post
+walk-table-look-word-requires t c κs = search needs
+
+-- what was looked up
+module _ (t : ℕ) (c : walk-table-lts.After-look-word (calls t) (walk-table-at t) walk-table.Post) where
+  abbrev given : walk-table-lts.Start (calls t) (walk-table-at t) walk-table.Post
+  given = c .before .before .before .before .before
+
+  abbrev memory : ℕ → Option (List ℕ)
+  memory = tableIn (segmentsIn (now (given .args .segments))) (now (given .args .words))
+
+  -- what the contract says of the page
+  abbrev answer : Walked
+  answer = walk (entryBy (given .args .reserved)) memory (given .args .level) (tableFrom (now (given .args .words)) (given .args .place)) (rightsOver (given .args .rights)) (given .args .page)
+
+  abbrev word : ℕ
+  word = getD (now (c .before .before .table-at .result)) (given .args .page / 2 ^ (9 * (given .args .level - 1)) % 512) 0
+
+  module _ (l : Look) (e : c .look-word .result ≡ l) where
+    told : packed (reads (given .args .reserved) memory (given .args .level - 1) (rightsOver (given .args .rights)) (given .args .page) l) ≡ packed answer
+    told =
+        let a = given .args in
+        let n = a .level - 1 in
+        let table = tableFrom (now (a .words)) (a .place) in
+        let r = rightsOver (a .rights) in
+        let h : n + 1 ≡ a .level = omega (arith, given .pre .1 .0) in
+        let w = ap (λ (u : List ℕ). getD u (a .page / spanPages n % 512) 0) (sym (c .before .before .table-at .ensures)) in
+        ap (λ (k : Look). packed (reads (a .reserved) memory n r (a .page) k)) (sym e ∙ c .look-word .ensures)
+        ∙ sym (ap packed (walk-word (a .reserved) memory n r (a .page) table word w))
+        ∙ ap (λ (k : ℕ). packed (walk (entryBy (a .reserved)) memory k table r (a .page))) h
+
+    sound : Sound (given .args .level - 1) l
+    sound = subst (λ (k : Look). Sound (given .args .level - 1) k) (sym (c .look-word .ensures) ∙ e) (sound-entry (given .args .reserved) (given .args .level - 1) word)
 
 walk-table-enum-told : (t : ℕ) → walk-table-lts.Need-enum-told (calls t) (walk-table-at t) walk-table.Post
 walk-table-enum-told t c = search needs
 
-walk-table-add-result : (t : ℕ) → walk-table-lts.Need-add-result (calls t) (walk-table-at t) walk-table.Post
-walk-table-add-result t c = search needs
-
 walk-table-mul-result : (t : ℕ) → walk-table-lts.Need-mul-result (calls t) (walk-table-at t) walk-table.Post
 walk-table-mul-result t c = search needs
-
-walk-table-add-result-2 : (t : ℕ) → walk-table-lts.Need-add-result-2 (calls t) (walk-table-at t) walk-table.Post
-walk-table-add-result-2 t c = search needs
 
 walk-table-enum-told-2 : (t : ℕ) → walk-table-lts.Need-enum-told-2 (calls t) (walk-table-at t) walk-table.Post
 walk-table-enum-told-2 t c = search needs
@@ -102,162 +134,270 @@ walk-table-enum-told-2 t c = search needs
 walk-table-mul-result-2 : (t : ℕ) → walk-table-lts.Need-mul-result-2 (calls t) (walk-table-at t) walk-table.Post
 walk-table-mul-result-2 t c = search needs
 
+walk-table-add-result : (t : ℕ) → walk-table-lts.Need-add-result (calls t) (walk-table-at t) walk-table.Post
+walk-table-add-result t c = search needs
+
+walk-table-enum-known-found : (t : ℕ) → walk-table-lts.Need-enum-known-found (calls t) (walk-table-at t) walk-table.Post
+walk-table-enum-known-found t c = search needs
+
+walk-table-mul-frame : (t : ℕ) → walk-table-lts.Need-mul-frame (calls t) (walk-table-at t) walk-table.Post
+walk-table-mul-frame t c = search needs
+
+walk-table-shl-frame : (t : ℕ) → walk-table-lts.Need-shl-frame (calls t) (walk-table-at t) walk-table.Post
+walk-table-shl-frame t c = search needs
+
+-- a span's pages, by the shift
+module _ (t : ℕ) (c : walk-table-lts.After-known-told (calls t) (walk-table-at t) walk-table.Post) where
+  abbrev leaf-given : walk-table-lts.Start (calls t) (walk-table-at t) walk-table.Post
+  leaf-given = given t (c .before .before .before)
+
+  pages : 1 * 2 ^ (9 * (leaf-given .args .level - 1)) % 2 ^ 64 ≡ spanPages (leaf-given .args .level - 1)
+  pages =
+      let n = leaf-given .args .level - 1 in
+      let b : 1 * 2 ^ (9 * n) < 2 ^ 64 = rw (one-mul (2 ^ (9 * n))) (pow-lt {i = 9 * n} {j = 64} (omega (arith, leaf-given .pre .1 .1))) in
+      mod-eq-of-lt b ∙ one-mul (2 ^ (9 * n))
+
+  -- the mask takes how far into the span the page is
+  rest : bitAnd (leaf-given .args .page) (1 * 2 ^ (9 * (leaf-given .args .level - 1)) % 2 ^ 64 - 1) ≡ leaf-given .args .page % spanPages (leaf-given .args .level - 1)
+  rest = ap (λ (m : ℕ). bitAnd (leaf-given .args .page) (m - 1)) pages ∙ and-mask (leaf-given .args .page) (9 * (leaf-given .args .level - 1))
+
+  -- a large page is of level 2 or 3, its frame is below 2^40
+  leaf-sound : Sound (leaf-given .args .level - 1) (look.Leaf (c .before .found .given .0 .0) (c .before .found .given .0 .1 .0))
+  leaf-sound = sound t (c .before .before .before) (look.Leaf (c .before .found .given .0 .0) (c .before .found .given .0 .1 .0)) (c .before .found .given .1)
+
+  frame-lt : c .before .found .given .0 .0 + bitAnd (leaf-given .args .page) (1 * 2 ^ (9 * (leaf-given .args .level - 1)) % 2 ^ 64 - 1) < 2 ^ 40
+  frame-lt = omega (arith, leaf-sound .1, rest, mod-lt (leaf-given .args .page) (pow-pos (9 * (leaf-given .args .level - 1))))
+
+walk-table-sub-frame : (t : ℕ) → walk-table-lts.Need-sub-frame (calls t) (walk-table-at t) walk-table.Post
+walk-table-sub-frame t c = omega (arith, pages t c, pow-pos (9 * (leaf-given t c .args .level - 1)))
+
+walk-table-add-frame : (t : ℕ) → walk-table-lts.Need-add-frame (calls t) (walk-table-at t) walk-table.Post
+walk-table-add-frame t c = omega (arith, frame-lt t c)
+
+walk-table-allows-requires : (t : ℕ) → walk-table-lts.Need-allows-requires (calls t) (walk-table-at t) walk-table.Post
+walk-table-allows-requires t c κs = search needs
+
+walk-table-packed-page-requires : (t : ℕ) → walk-table-lts.Need-packed-page-requires (calls t) (walk-table-at t) walk-table.Post
+walk-table-packed-page-requires t c κs = (frame-lt t (c .before), omega (arith, leaf-sound t (c .before) .0))
+
+walk-table-enum-known-found-2 : (t : ℕ) → walk-table-lts.Need-enum-known-found-2 (calls t) (walk-table-at t) walk-table.Post
+walk-table-enum-known-found-2 t c = search needs
+
+walk-table-table-place-requires : (t : ℕ) → walk-table-lts.Need-table-place-requires (calls t) (walk-table-at t) walk-table.Post
+walk-table-table-place-requires t c κs = let s = given t (c .before .before .before) in omega (arith, s .pre .1 .3)
+
+-- the next table, by its place
+module _ (t : ℕ) (c : walk-table-lts.After-table-place (calls t) (walk-table-at t) walk-table.Post) where
+  abbrev looked : walk-table-lts.After-look-word (calls t) (walk-table-at t) walk-table.Post
+  looked = c .before .before .before .before
+
+  abbrev next-given : walk-table-lts.Start (calls t) (walk-table-at t) walk-table.Post
+  next-given = given t looked
+
+  abbrev address : ℕ
+  address = c .before .before .found2 .given .0 .0
+
+  -- with its own entry's word
+  abbrev names : ℕ
+  names = c .before .before .found2 .given .0 .1 .0
+
+  -- the page by it
+  abbrev by-next : Option ℕ → ℕ
+  by-next o =
+      let a = next-given .args in
+      let r = joined (rightsOver (a .rights)) (rightsOf names) in
+      packed (follow (tableWhere (now (a .words)) o) (a .level - 1 + 1) (λ u. walk (entryBy (a .reserved)) (memory t looked) (a .level - 1) u r (a .page)))
+
+  module _ (o : Option ℕ) (e : placeOf (c .table-place .result) ≡ o) where
+    placed : placeFrom 0 (segmentsIn (now (next-given .args .segments))) address ≡ o
+    placed = sym (c .table-place .ensures) ∙ e
+
+    by-place : by-next o ≡ packed (answer t looked)
+    by-place = ap by-next (sym placed) ∙ told t looked (look.Next address names) (c .before .before .found2 .given .1)
+
 walk-table-enum-told-3 : (t : ℕ) → walk-table-lts.Need-enum-told-3 (calls t) (walk-table-at t) walk-table.Post
 walk-table-enum-told-3 t c = search needs
 
 walk-table-mul-result-3 : (t : ℕ) → walk-table-lts.Need-mul-result-3 (calls t) (walk-table-at t) walk-table.Post
 walk-table-mul-result-3 t c = search needs
 
-walk-table-add-result-3 : (t : ℕ) → walk-table-lts.Need-add-result-3 (calls t) (walk-table-at t) walk-table.Post
-walk-table-add-result-3 t c = search needs
+walk-table-add-result-2 : (t : ℕ) → walk-table-lts.Need-add-result-2 (calls t) (walk-table-at t) walk-table.Post
+walk-table-add-result-2 t c = search needs
 
-walk-table-enum-known-found : (t : ℕ) → walk-table-lts.Need-enum-known-found (calls t) (walk-table-at t) walk-table.Post
-walk-table-enum-known-found t c = search needs
+walk-table-enum-known-next : (t : ℕ) → walk-table-lts.Need-enum-known-next (calls t) (walk-table-at t) walk-table.Post
+walk-table-enum-known-next t c = search needs
 
-walk-table-span-pages-requires : (t : ℕ) → walk-table-lts.Need-span-pages-requires (calls t) (walk-table-at t) walk-table.Post
-walk-table-span-pages-requires t c κs = search needs
+walk-table-allows-requires-2 : (t : ℕ) → walk-table-lts.Need-allows-requires-2 (calls t) (walk-table-at t) walk-table.Post
+walk-table-allows-requires-2 t c κs = search needs
 
-walk-table-within-span-requires : (t : ℕ) → walk-table-lts.Need-within-span-requires (calls t) (walk-table-at t) walk-table.Post
-walk-table-within-span-requires t c κs = search needs
+-- it is inside
+module _ (t : ℕ) (c : walk-table-lts.After-allows2 (calls t) (walk-table-at t) walk-table.Post) where
+  abbrev at-place : walk-table-lts.After-table-place (calls t) (walk-table-at t) walk-table.Post
+  at-place = c .before .before .before .before
 
--- a leaf's frame
-frame-lt : (t : ℕ) (c : walk-table-lts.After-within-span (calls t) (walk-table-at t) walk-table.Post)
-    → c .before .before .before .found .given .0 .0 + c .within-span .result < 2 ^ 40
-frame-lt t c =
-    let k = c .before .before .before .before .before in
-    let a = k .before .before .args in
-    let s = sound t k _ (c .before .before .before .found .given .1) in
-    omega (arith, s .1, c .within-span .ensures, mod-lt (a .page) (pow-pos (9 * (a .level - 1))))
+  abbrev lower-given : walk-table-lts.Start (calls t) (walk-table-at t) walk-table.Post
+  lower-given = next-given t at-place
 
--- its rights
-rights-lt : (t : ℕ) (c : walk-table-lts.After-rights-bits (calls t) (walk-table-at t) walk-table.Post) → c .rights-bits .result < 8
-rights-lt t c =
-    let a = c .before .before .before .before .before .before .before .before .args in
-    let v = c .before .before .before .before .found .given .0 .1 .0 in
-    omega (arith, c .rights-bits .ensures, bits-lt (rightsOver (bitAnd (a .all) v) (bitOr (a .any) v)))
+  abbrev lower : ℕ
+  lower = c .before .before .next .given .0 .0
 
-walk-table-add-frame : (t : ℕ) → walk-table-lts.Need-add-frame (calls t) (walk-table-at t) walk-table.Post
-walk-table-add-frame t c = omega (arith, frame-lt t c)
+  is-placed : placeOf (at-place .table-place .result) ≡ some lower
+  is-placed = ap placeOf (c .before .before .next .given .1)
 
-walk-table-mul-result-4 : (t : ℕ) → walk-table-lts.Need-mul-result-4 (calls t) (walk-table-at t) walk-table.Post
-walk-table-mul-result-4 t c = omega (arith, frame-lt t c)
+  lower-inside : lower + 512 ≤ length (now (lower-given .args .words))
+  lower-inside =
+      omega (
+        arith,
+        lower-given .pre .1 .3,
+        place-inside (segmentsIn (now (lower-given .args .segments))) 0 (address t at-place) lower (placed t at-place (some lower) is-placed),
+      )
 
-walk-table-rights-bits-requires : (t : ℕ) → walk-table-lts.Need-rights-bits-requires (calls t) (walk-table-at t) walk-table.Post
-walk-table-rights-bits-requires t c κs = search needs
+  -- the page by it, as a table of level `n`, with the bits that the words above it have
+  abbrev by-table : (words segments : List ℕ) (n all : ℕ) → ℕ
+  by-table words segments n all =
+      packed (walk (entryBy (lower-given .args .reserved)) (tableIn (segmentsIn segments) words) n (tableFrom words lower) (rightsOver all) (lower-given .args .page))
 
-walk-table-mul-result-5 : (t : ℕ) → walk-table-lts.Need-mul-result-5 (calls t) (walk-table-at t) walk-table.Post
-walk-table-mul-result-5 t c = omega (arith, rights-lt t c)
+  abbrev above : ℕ
+  above = bitAnd (lower-given .args .rights) (c .allows2 .result)
 
-walk-table-add-result-4 : (t : ℕ) → walk-table-lts.Need-add-result-4 (calls t) (walk-table-at t) walk-table.Post
-walk-table-add-result-4 t c = omega (arith, frame-lt t (c .before), rights-lt t c)
+  by-lower : by-table (now (lower-given .args .words)) (now (lower-given .args .segments)) (lower-given .args .level - 1) above ≡ packed (answer t (looked t at-place))
+  unfolding tableWhere
+  by-lower =
+      let a = lower-given .args in
+      ap (λ (u : ℕ). by-table (now (a .words)) (now (a .segments)) (a .level - 1) (bitAnd (a .rights) u)) (c .allows2 .ensures)
+      ∙ rw (rights-step (a .rights) (names t at-place)) (by-place t at-place (some lower) is-placed)
 
-walk-table-mul-result-6 : (t : ℕ) → walk-table-lts.Need-mul-result-6 (calls t) (walk-table-at t) walk-table.Post
-walk-table-mul-result-6 t c = omega (arith, c .before .before .before .before .before .before .before .before .pre .1)
+walk-table-walk-page-requires : (t : ℕ) → walk-table-lts.Need-walk-page-requires (calls t) (walk-table-at t) walk-table.Post
+walk-table-walk-page-requires t c κs = lower-inside t (c .before)
 
-walk-table-add-result-5 : (t : ℕ) → walk-table-lts.Need-add-result-5 (calls t) (walk-table-at t) walk-table.Post
-walk-table-add-result-5 t c = omega (arith, frame-lt t (c .before), rights-lt t c, c .before .before .before .before .before .before .before .before .pre .1)
+walk-table-returns : (t : ℕ) → walk-table-lts.Need-returns (calls t) (walk-table-at t) walk-table.Post
+walk-table-returns t c =
+    let k = c .before .before in
+    let by : ℕ → ℕ = λ n. by-table t k (now (lower-given t k .args .words)) (now (lower-given t k .args .segments)) n (above t k) in
+    let e : c .walk-page .result ≡ by 1 = c .walk-page .ensures (memory t (looked t (at-place t k))) in
+    e ∙ ap by (sym (c .before .if1 .taken)) ∙ by-lower t k
 
-walk-table-add-result-6 : (t : ℕ) → walk-table-lts.Need-add-result-6 (calls t) (walk-table-at t) walk-table.Post
-walk-table-add-result-6 t c = omega (arith, frame-lt t (c .before), rights-lt t c, c .before .before .before .before .before .before .before .before .pre .1)
+walk-table-sub-words : (t : ℕ) → walk-table-lts.Need-sub-words (calls t) (walk-table-at t) walk-table.Post
+walk-table-sub-words t c = search needs
 
-walk-table-enum-known-found-2 : (t : ℕ) → walk-table-lts.Need-enum-known-found-2 (calls t) (walk-table-at t) walk-table.Post
-walk-table-enum-known-found-2 t c = search needs
+walk-table-part-words-start : (t : ℕ) → walk-table-lts.Need-part-words-start (calls t) (walk-table-at t) walk-table.Post
+walk-table-part-words-start t c = search needs
 
-walk-table-sub-whole : (t : ℕ) → walk-table-lts.Need-sub-whole (calls t) (walk-table-at t) walk-table.Post
-walk-table-sub-whole t c = search needs
+walk-table-part-words-end : (t : ℕ) → walk-table-lts.Need-part-words-end (calls t) (walk-table-at t) walk-table.Post
+walk-table-part-words-end t c = search needs
 
-walk-table-part-whole-start : (t : ℕ) → walk-table-lts.Need-part-whole-start (calls t) (walk-table-at t) walk-table.Post
-walk-table-part-whole-start t c = search needs
+walk-table-sub-segments : (t : ℕ) → walk-table-lts.Need-sub-segments (calls t) (walk-table-at t) walk-table.Post
+walk-table-sub-segments t c = search needs
 
-walk-table-part-whole-end : (t : ℕ) → walk-table-lts.Need-part-whole-end (calls t) (walk-table-at t) walk-table.Post
-walk-table-part-whole-end t c = search needs
+walk-table-part-segments-start : (t : ℕ) → walk-table-lts.Need-part-segments-start (calls t) (walk-table-at t) walk-table.Post
+walk-table-part-segments-start t c = search needs
+
+walk-table-part-segments-end : (t : ℕ) → walk-table-lts.Need-part-segments-end (calls t) (walk-table-at t) walk-table.Post
+walk-table-part-segments-end t c = search needs
 
 walk-table-walk-table-requires : (t : ℕ) → walk-table-lts.Need-walk-table-requires (calls t) (walk-table-at t) walk-table.Post
 walk-table-walk-table-requires t c κs =
-    let s = sound t (c .before .before .before .before) _ (c .before .before .found2 .given .1) in
-    let p = c .before .before .before .before .before .before .pre in
-    (omega (arith, p .0, p .1), (s, omega (arith, p .1)))
-
-walk-table-returns : (t : ℕ) → walk-table-lts.Need-returns (calls t) (walk-table-at t) walk-table.Post
-unfolding packed
-walk-table-returns t c =
-    let n = c .before .before .before .before .args .level in
-    let z : 4 * (n + 1) + 2 ≡ 4 * (n - 1 + 2) + 2 = omega (arith, c .before .before .before .before .pre .1 .0) in
-    z ∙ told t (c .before .before) look.Outside (c .enum-told .given .1)
+    let k = c .before .before .before in
+    let s = lower-given t k in
+    let words = now (s .args .words) in
+    let segments = now (s .args .segments) in
+    let n : (s .args .level - 1 ≡ 1) → ⊥ = c .before .before .if1 .left in
+    let l : length (take (length words - 0) (drop 0 words)) ≡ length words = ap length (whole-part words) in
+    let m : total (segmentsIn (take (length segments - 0) (drop 0 segments))) ≡ total (segmentsIn segments) = ap (λ (x : List ℕ). total (segmentsIn x)) (whole-part segments) in (
+      omega (arith, s .pre .0, s .pre .1 .0),
+      (omega (arith, s .pre .1 .0), omega (arith, s .pre .1 .1), omega (arith, l, lower-inside t k), m ∙ s .pre .1 .3 ∙ sym l),
+    )
 
 walk-table-returns-2 : (t : ℕ) → walk-table-lts.Need-returns-2 (calls t) (walk-table-at t) walk-table.Post
 unfolding packed
 walk-table-returns-2 t c =
-    let n = c .before .before .before .before .args .level in
-    let z : 4 * n ≡ 4 * (n - 1 + 1) = omega (arith, c .before .before .before .before .pre .1 .0) in
-    z ∙ told t (c .before .before) look.Absent (c .enum-told2 .given .1)
+    let k = c .before .before in
+    let z : 4 * given t k .args .level ≡ 4 * (given t k .args .level - 1 + 1) = omega (arith, given t k .pre .1 .0) in
+    z ∙ told t k look.Absent (c .enum-told .given .1)
 
 walk-table-returns-3 : (t : ℕ) → walk-table-lts.Need-returns-3 (calls t) (walk-table-at t) walk-table.Post
 unfolding packed
 walk-table-returns-3 t c =
-    let n = c .before .before .before .before .args .level in
-    let z : 4 * n + 1 ≡ 4 * (n - 1 + 1) + 1 = omega (arith, c .before .before .before .before .pre .1 .0) in
-    z ∙ told t (c .before .before) look.Reserved (c .enum-told3 .given .1)
+    let k = c .before .before in
+    let z : 4 * given t k .args .level + 1 ≡ 4 * (given t k .args .level - 1 + 1) + 1 = omega (arith, given t k .pre .1 .0) in
+    z ∙ told t k look.Reserved (c .enum-told2 .given .1)
 
 walk-table-returns-4 : (t : ℕ) → walk-table-lts.Need-returns-4 (calls t) (walk-table-at t) walk-table.Post
-unfolding packed
 walk-table-returns-4 t c =
-    let f = c .before .before .before .before in
-    let k = f .before .before in
-    let a = k .before .before .args in
-    let g = f .found .given .0 .0 in
-    let v = f .found .given .0 .1 .0 in
-    let w = c .before .within-span .ensures in
-    let b = c .rights-bits .ensures ∙ ap rightsBits (rights-step (a .all) (a .any) v) in
-    let h : a .level ≡ a .level - 1 + 1 = omega (arith, k .before .before .pre .1 .0) in
-    let r = joined (rightsOver (a .all) (a .any)) (rightsOf v) in
-    rw (w, b)
-    (ap (λ (l : ℕ). 256 * (g + a .page % spanPages (a .level - 1)) + 32 * rightsBits r + 4 * l + 3) h ∙ told t k (look.Leaf g v) (f .found .given .1))
+    let f = c .before .before in
+    let k = f .before .before .before in
+    let a = given t k .args in
+    let g = f .before .found .given .0 .0 in
+    let v = f .before .found .given .0 .1 .0 in
+    let x = bitAnd (a .page) (1 * 2 ^ (9 * (a .level - 1)) % 2 ^ 64 - 1) in
+    let h : a .level ≡ a .level - 1 + 1 = omega (arith, given t k .pre .1 .0) in
+    c .packed-page .ensures
+    ∙ ap (λ (u : ℕ). packed (mapped (g + x) (a .level) (rightsOver (bitAnd (a .rights) u)))) (c .before .allows .ensures)
+    ∙ rw (rights-step (a .rights) v) (ap (λ (y : ℕ). packed (mapped (g + y) (a .level) (joined (rightsOver (a .rights)) (rightsOf v)))) (rest t f)
+    ∙ ap (λ (l : ℕ). packed (mapped (g + a .page % spanPages (a .level - 1)) l (joined (rightsOver (a .rights)) (rightsOf v)))) h
+    ∙ told t k (look.Leaf g v) (f .before .found .given .1))
 
 walk-table-returns-5 : (t : ℕ) → walk-table-lts.Need-returns-5 (calls t) (walk-table-at t) walk-table.Post
+unfolding packed tableWhere
 walk-table-returns-5 t c =
-    let f = c .before .before .before in
-    let k = f .before .before in
-    let a = k .before .before .args in
-    let v = f .found2 .given .0 .1 .0 in
-    let words = now (a .image) in
-    let lower : List ℕ → ℕ = λ i. packed (follow (tableAt i (a .base) (f .found2 .given .0 .0)) (a .level - 1 + 1) (λ u. walk (entry 52 true) (tableAt i (a .base)) (a .level - 1) u (rightsOver (bitAnd (a .all) v) (bitOr (a .any) v)) (a .page))) in
-    let e : c .walk-table .result ≡ lower (take (length words - 0) (drop 0 words)) = c .walk-table .ensures in
-    e ∙ ap lower (whole-part words) ∙ rw (rights-step (a .all) (a .any) v) (told t k (look.Next (f .found2 .given .0 .0) v) (f .found2 .given .1))
+    let k = c .before .before in
+    let z : 4 * next-given t k .args .level + 2 ≡ 4 * (next-given t k .args .level - 1 + 1) + 2 = omega (arith, next-given t k .pre .1 .0) in
+    z ∙ by-place t k none (ap placeOf (c .enum-told3 .given .1))
+
+walk-table-returns-6 : (t : ℕ) → walk-table-lts.Need-returns-6 (calls t) (walk-table-at t) walk-table.Post
+walk-table-returns-6 t c =
+    let k = c .before .before .before .before in
+    let a = lower-given t k .args in
+    let words = now (a .words) in
+    let segments = now (a .segments) in
+    let by : List ℕ → List ℕ → ℕ = λ w s. by-table t k w s (a .level - 1) (above t k) in
+    let e : c .walk-table .result ≡ by (take (length words - 0) (drop 0 words)) (take (length segments - 0) (drop 0 segments)) = c .walk-table .ensures in
+    e
+    ∙ ap (λ (w : List ℕ). by w (take (length segments - 0) (drop 0 segments))) (whole-part words)
+    ∙ ap (by words) (whole-part segments)
+    ∙ by-lower t k
 
 pub +walk-table-spec : {M : Type 1} → statement M
 +walk-table-spec = close μ-walk-table λ t. walk-table-lts.spec (calls t)
     (walk-table-at t)
     walk-table.Post
     (walk-table-sub-below t)
-    (walk-table-look-at-requires t)
+    (walk-table-table-at-requires t)
+    (walk-table-mul-look-word t)
+    (walk-table-shr-look-word t)
+    (walk-table-mul-look-word-2 t)
+    (walk-table-shared-slice-read-look-word t)
+    (walk-table-look-word-requires t)
     (walk-table-enum-told t)
-    (walk-table-add-result t)
     (walk-table-mul-result t)
-    (walk-table-add-result-2 t)
     (walk-table-enum-told-2 t)
     (walk-table-mul-result-2 t)
+    (walk-table-add-result t)
+    (walk-table-enum-known-found t)
+    (walk-table-mul-frame t)
+    (walk-table-shl-frame t)
+    (walk-table-sub-frame t)
+    (walk-table-add-frame t)
+    (walk-table-allows-requires t)
+    (walk-table-packed-page-requires t)
+    (walk-table-enum-known-found-2 t)
+    (walk-table-table-place-requires t)
     (walk-table-enum-told-3 t)
     (walk-table-mul-result-3 t)
-    (walk-table-add-result-3 t)
-    (walk-table-enum-known-found t)
-    (walk-table-span-pages-requires t)
-    (walk-table-within-span-requires t)
-    (walk-table-add-frame t)
-    (walk-table-mul-result-4 t)
-    (walk-table-rights-bits-requires t)
-    (walk-table-mul-result-5 t)
-    (walk-table-add-result-4 t)
-    (walk-table-mul-result-6 t)
-    (walk-table-add-result-5 t)
-    (walk-table-add-result-6 t)
-    (walk-table-enum-known-found-2 t)
-    (walk-table-sub-whole t)
-    (walk-table-part-whole-start t)
-    (walk-table-part-whole-end t)
-    (walk-table-walk-table-requires t)
+    (walk-table-add-result-2 t)
+    (walk-table-enum-known-next t)
+    (walk-table-allows-requires-2 t)
+    (walk-table-walk-page-requires t)
     (walk-table-returns t)
+    (walk-table-sub-words t)
+    (walk-table-part-words-start t)
+    (walk-table-part-words-end t)
+    (walk-table-sub-segments t)
+    (walk-table-part-segments-start t)
+    (walk-table-part-segments-end t)
+    (walk-table-walk-table-requires t)
     (walk-table-returns-2 t)
     (walk-table-returns-3 t)
     (walk-table-returns-4 t)
     (walk-table-returns-5 t)
+    (walk-table-returns-6 t)

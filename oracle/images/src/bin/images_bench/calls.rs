@@ -3,12 +3,12 @@
 use std::hint::black_box;
 
 use images::hand_written::{HAND_WRITTEN, LIST_BY_SEARCHES};
-use images::image::{Image, PAGE_BYTES};
+use images::image::{Image, PAGE_BYTES, TABLE};
 use images::library::{Function, ListFunction, ANSWERED};
 use images::port::PORT;
 
 /// The words of an answer in a list.
-const WORDS: usize = 5;
+pub const WORDS: usize = 5;
 
 const RUN: u64 = 1;
 
@@ -31,11 +31,17 @@ fn translate(function: Function, image: &Image, address: u64, out: &mut [u64; 4]
     }
 }
 
-/// Lists from page zero on. Gives how many answers there are.
-pub fn list(function: ListFunction, image: &Image, answers: &mut [u64]) -> usize {
+/// Lists from page zero on, with a byte for each table. Gives how many answers there are, and whether
+/// they are all.
+pub fn list(
+    function: ListFunction,
+    image: &Image,
+    empty: &mut [u8],
+    answers: &mut [u64],
+) -> (usize, bool) {
     let function = black_box(function);
     let mut out = [0; 3];
-    // SAFETY: the function reads the image's words and writes to answers and out.
+    // SAFETY: the function reads the image's words and writes to empty, answers and out.
     let status = unsafe {
         function(
             image.words.as_ptr(),
@@ -43,14 +49,16 @@ pub fn list(function: ListFunction, image: &Image, answers: &mut [u64]) -> usize
             image.base,
             image.root,
             0,
+            empty.as_mut_ptr(),
+            empty.len(),
             answers.as_mut_ptr(),
             answers.len(),
             out.as_mut_ptr(),
             out.len(),
         )
     };
-    assert_eq!((status, out[1]), (ANSWERED, 1), "a whole list");
-    out[0] as usize
+    assert_eq!(status, ANSWERED);
+    (out[0] as usize, out[1] == 1)
 }
 
 pub fn hold_translations_alike(image: &Image, addresses: &[u64]) {
@@ -65,15 +73,26 @@ pub fn hold_translations_alike(image: &Image, addresses: &[u64]) {
 
 /// The answers of a whole list, which are the same from all sides.
 pub fn hold_lists_alike(image: &Image) -> Vec<u64> {
-    let most = WORDS * (image.words.len() + 1);
+    let (answers, whole) = hold_alike(image, image.words.len() + 1);
+    assert!(whole, "a whole list");
+    answers
+}
+
+/// Not more answers than so many, which are the same from all sides, and whether they are all.
+pub fn hold_alike(image: &Image, most: usize) -> (Vec<u64>, bool) {
     let [port, others @ ..] = [PORT.list, HAND_WRITTEN.list, LIST_BY_SEARCHES].map(|function| {
-        let mut answers = vec![0; most];
-        let count = list(function, image, &mut answers);
+        let mut answers = vec![0; WORDS * most];
+        let (count, whole) = list(function, image, &mut bytes(image), &mut answers);
         answers.truncate(WORDS * count);
-        answers
+        (answers, whole)
     });
     assert!(others.iter().all(|other| *other == port), "lists differ");
     port
+}
+
+/// A byte for each table of an image.
+pub fn bytes(image: &Image) -> Vec<u8> {
+    vec![0; image.words.len() / TABLE]
 }
 
 /// How many of the answers are runs.

@@ -11,8 +11,11 @@ use images::hand_written::{HAND_WRITTEN, LIST_BY_SEARCHES};
 use images::image::{Image, TABLE};
 use images::library::ListFunction;
 use images::port::PORT;
+use images::reference::runs::MOST_LINES;
+use images::worst;
 
-use calls::{hold_lists_alike, hold_translations_alike, list, pages, runs, translate_all};
+use calls::{bytes, hold_alike, hold_lists_alike, hold_translations_alike, list};
+use calls::{pages, runs, translate_all, WORDS};
 use timing::{alternate, Side};
 
 /// Translations in a turn.
@@ -64,6 +67,13 @@ fn main() {
     for size in [1u64, 4, 16, 64] {
         let uppers = 2 + size.div_ceil(2);
         growth(size, &trees::full(size * MIB - uppers, SHORT));
+    }
+    println!(
+        "{:NAME$}{:>9}{:>9}{:>9}{:>9}{:>13}",
+        "worst images, ms", "answers", "port", "Rust", "ratio", "by searches"
+    );
+    for worst in worst::all() {
+        longest(worst.name, &worst.image);
     }
 }
 
@@ -119,13 +129,21 @@ fn lists(name: &str, image: &Image) {
     println!("{name:NAME$}{runs:>12}{times}{ratio:>12.2}{by_searches:>12.2}");
 }
 
-/// Nanoseconds for a whole list, each side into an own buffer.
+/// Nanoseconds for a whole list.
 fn time_lists<const N: usize>(functions: [ListFunction; N], image: &Image) -> [f64; N] {
-    let room = hold_lists_alike(image).len();
+    time_answers(functions, image, hold_lists_alike(image).len())
+}
+
+/// Nanoseconds for a list with so much room, each side into an own buffer.
+fn time_answers<const N: usize>(
+    functions: [ListFunction; N],
+    image: &Image,
+    room: usize,
+) -> [f64; N] {
     alternate(functions.map(|function| -> Side {
-        let mut answers = vec![0; room];
+        let (mut empty, mut answers) = (bytes(image), vec![0; room]);
         Box::new(move || {
-            list(function, image, &mut answers);
+            list(function, image, &mut empty, &mut answers);
         })
     }))
 }
@@ -148,4 +166,14 @@ fn growth(size: u64, image: &Image) {
     let [port, rust] = times.map(|time| time / tables);
     let (name, ratio) = (format!("{size} MiB of tables, ns for a table"), port / rust);
     println!("{name:NAME$}{port:>9.1}{rust:>9.1}{ratio:>9.2}");
+}
+
+/// Milliseconds for as many answers as the program `runs` prints.
+fn longest(name: &str, image: &Image) {
+    let functions = [PORT.list, HAND_WRITTEN.list, LIST_BY_SEARCHES];
+    let (answers, _) = hold_alike(image, MOST_LINES);
+    let times = time_answers(functions, image, answers.len());
+    let [port, rust, searches] = times.map(|time| time / 1e6);
+    let (count, ratio, by_searches) = (answers.len() / WORDS, port / rust, port / searches);
+    println!("{name:NAME$}{count:>9}{port:>9.3}{rust:>9.3}{ratio:>9.2}{by_searches:>13.2}");
 }

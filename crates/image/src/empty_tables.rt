@@ -1,0 +1,52 @@
+// Tables that hold nothing, remembered in lent bytes: a byte for each 512 words, in it a bit for each level.
+use crate::memory::TABLE_WORDS;
+ghost use mathlib.Core.Path.{_≡_};
+ghost use mathlib.Core.Bool.{true};
+ghost use Prim.Native.Nat.{_<_};
+ghost use lib.ListN.{length, replicate};
+ghost use Rattle.image.specs.EmptyTables.{hasByte, marked, marking};
+
+// Whether the table at a place has a byte: those of a list of segments lie at multiples of 512 words.
+fn has_byte(bytes: &[u8], place: usize) -> bool
+    ensures { λ r. ⌜ r ≡ hasByte (now (bytes .entry)) place ⌝ }
+{
+    if place % TABLE_WORDS == 0 {
+        return place / TABLE_WORDS < bytes.len();
+    }
+    false
+}
+
+// Whether the table at a place is known to hold nothing as one of level below + 1.
+pub(crate) fn is_empty(bytes: &[u8], place: usize, below: u64) -> bool
+    requires { ⌜ below < 8 ⌝ }
+    ensures { λ r. ⌜ r ≡ marked (now (bytes .entry)) place below ⌝ }
+{
+    let has = has_byte(bytes, place);
+    if has {
+        return (bytes[place / TABLE_WORDS] as u64 >> below) & 1 == 1;
+    }
+    false
+}
+
+// Remembers that it holds nothing.
+pub(crate) fn remember(bytes: &mut [u8], place: usize, below: u64)
+    requires { ⌜ below < 8 ⌝ }
+    ensures { λ _. ⌜ now (bytes .exit) ≡ marking (now (bytes .entry)) place below ⌝ }
+{
+    let has = has_byte(&bytes[0..bytes.len()], place);
+    if has {
+        let i = place / TABLE_WORDS;
+        bytes[i] = (bytes[i] as u64 | (1 << below)) as u8;
+    }
+}
+
+// Forgets what the bytes have. A byte is written only if it is not zero, so that the compiler makes no call of memset of the loop: the library calls nothing.
+pub(crate) fn forget(bytes: &mut [u8])
+    ensures { λ _. ⌜ now (bytes .exit) ≡ replicate (length (now (bytes .entry))) 0 ⌝ }
+{
+    for i in 0..bytes.len() {
+        if bytes[i] != 0 {
+            bytes[i] = 0;
+        }
+    }
+}

@@ -1,0 +1,187 @@
+// The search over tables, each lower one by the same rule, one level down.
+use crate::empty_tables::is_empty;
+use crate::empty_tables::remember;
+use crate::found::END;
+use crate::found::OUTSIDE;
+use crate::found::RESERVED;
+use crate::look::Look;
+use crate::look::look_word;
+use crate::memory::Place;
+use crate::memory::TABLE_WORDS;
+use crate::memory::table_at;
+use crate::memory::table_place;
+use crate::pages::pass_pages;
+use crate::progress::stop;
+use crate::progress::take;
+use crate::rights::allows;
+use crate::rights::rights_bits;
+use crate::span::span_end;
+use crate::span::within_span;
+ghost use mathlib.Core.Path.{_≡_};
+ghost use Prim.Native.Nat.{_+_, _-_, _^_, _≤_, _<_};
+ghost use lib.ListN.{length};
+ghost use Rattle.mapping.specs.Walk.{spanPages};
+ghost use Rattle.image.specs.EmptyTables.{TrueOf};
+ghost use Rattle.image.specs.Entry.{entryBy};
+ghost use Rattle.image.specs.Memory.{segmentsIn, tableIn, total};
+ghost use Rattle.image.specs.Progress.{GoesOn};
+ghost use Rattle.image.specs.Tables.{Searched, SearchedLowest, Steps};
+
+// What the search does at an entry.
+pub(crate) enum Step {
+    // It ends here, with what it has found.
+    Halt,
+    // It passes the entry's pages.
+    Pass,
+    // It goes on in the table at a place, with the bits that every word above that has.
+    Down(usize, u64),
+}
+
+// What the search does at the entry that a page is under, a word of a table of level below + 1.
+fn step_at(
+    segments: &[u64],
+    progress: &mut [u64],
+    word: u64,
+    below: u64,
+    pages: u64,
+    page: u64,
+    rights: u64,
+    reserved: u64,
+) -> Step
+    requires { ⌜ GoesOn (now progress) page × (1 ≤ below) × (below ≤ 4) × (pages ≡ spanPages below) × (page < 2 ^ 45) × (total (segmentsIn (now segments)) < 2 ^ 64) ⌝ }
+    ensures { λ r. ⌜ Steps (segmentsIn (now (segments .entry))) reserved word below page rights (now (progress .entry)) (now (progress .exit)) r ⌝ }
+{
+    let look = look_word(word, below, reserved);
+    match look {
+        Look::Absent => {
+            if progress[0] == END {
+                return Step::Pass;
+            }
+            Step::Halt
+        }
+        Look::Reserved => {
+            stop(progress, RESERVED, page, below + 1);
+            Step::Halt
+        }
+        Look::Leaf(first, word) => {
+            let frame = first + within_span(page, below, pages);
+            let taken = take(progress, page, frame, rights_bits(rights & allows(word)));
+            if taken {
+                return Step::Pass;
+            }
+            Step::Halt
+        }
+        Look::Next(address, word) => {
+            let next = table_place(segments, address);
+            match next {
+                Place::Outside => {
+                    stop(progress, OUTSIDE, page, below + 1);
+                    Step::Halt
+                }
+                Place::At(lower) => Step::Down(lower, rights & allows(word)),
+            }
+        }
+    }
+}
+
+// Goes over the pages of the table of level 1 at a place, from one on.
+fn pass_lowest(
+    words: &[u64],
+    empty: &mut [u8],
+    progress: &mut [u64],
+    place: usize,
+    from: u64,
+    rights: u64,
+    reserved: u64,
+) -> u64
+    requires { ⌜ GoesOn (now progress) from × (place + 512 ≤ length (now words)) × (from < 2 ^ 45) ⌝ }
+    ensures { λ r. ⌜ (length (now (empty .exit)) ≡ length (now (empty .entry))) × SearchedLowest reserved (now (words .entry)) place rights from (now (progress .entry)) (now (progress .exit)) (now (empty .entry)) (now (empty .exit)) r ⌝ }
+{
+    if progress[0] == END {
+        let known = is_empty(&empty[0..empty.len()], place, 0);
+        if known {
+            return span_end(from, 1, TABLE_WORDS as u64);
+        }
+    }
+    let table = table_at(words, place);
+    let reached = pass_pages(table, progress, from, rights, reserved);
+    if progress[0] == END {
+        if from as usize % TABLE_WORDS == 0 {
+            remember(empty, place, 0);
+        }
+    }
+    reached
+}
+
+// Goes over the pages of the table of the level at a place, from one on, and answers the page that it comes to. A table that is known to hold nothing is passed at once; one
+// that is gone through whole and holds nothing is known from then on.
+pub(crate) fn pass_table(
+    words: &[u64],
+    segments: &[u64],
+    empty: &mut [u8],
+    progress: &mut [u64],
+    place: usize,
+    level: u64,
+    pages: u64,
+    from: u64,
+    rights: u64,
+    reserved: u64,
+) -> u64
+    requires { ⌜ GoesOn (now progress) from × TrueOf (entryBy reserved) (tableIn (segmentsIn (now segments)) (now words)) (now words) (now empty) × (2 ≤ level) × (level ≤ 5) × (pages ≡ spanPages (level - 1)) × (from < 2 ^ 45) × (place + 512 ≤ length (now words)) × (total (segmentsIn (now segments)) ≡ length (now words)) ⌝ }
+    ensures { λ r. ⌜ (length (now (empty .exit)) ≡ length (now (empty .entry))) × Searched reserved (tableIn (segmentsIn (now (segments .entry))) (now (words .entry))) (now (words .entry)) level place rights from (now (progress .entry)) (now (progress .exit)) (now (empty .exit)) r ⌝ }
+{
+    let below = level - 1;
+    let end = span_end(from, level, pages * TABLE_WORDS as u64);
+    if progress[0] == END {
+        let known = is_empty(&empty[0..empty.len()], place, below);
+        if known {
+            return end;
+        }
+    }
+    let mut at = from;
+    while at < end {
+        let next = span_end(at, below, pages);
+        let word = words[place + (at >> (9 * below)) as usize % TABLE_WORDS];
+        let step = step_at(segments, progress, word, below, pages, at, rights, reserved);
+        match step {
+            Step::Halt => {
+                return at;
+            }
+            Step::Pass => {}
+            Step::Down(lower, above) => {
+                // Parts that are the whole: the slices' places and lengths then go on in registers.
+                let image = &words[0..words.len()];
+                if below == 1 {
+                    let came = pass_lowest(image, empty, progress, lower, at, above, reserved);
+                    if came < next {
+                        return came;
+                    }
+                } else {
+                    let parts = &segments[0..segments.len()];
+                    let reached = pass_table(
+                        image,
+                        parts,
+                        empty,
+                        progress,
+                        lower,
+                        below,
+                        pages >> 9,
+                        at,
+                        above,
+                        reserved,
+                    );
+                    if reached < next {
+                        return reached;
+                    }
+                }
+            }
+        }
+        at = next;
+    }
+    if progress[0] == END {
+        if within_span(from, level, pages * TABLE_WORDS as u64) == 0 {
+            remember(empty, place, below);
+        }
+    }
+    end
+}
