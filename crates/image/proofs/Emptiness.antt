@@ -1,13 +1,13 @@
 -- What is known of tables that hold nothing: such a table is passed at once, and a table that was gone through whole with nothing found is one.
-use Prim.Native.Nat.{ℕ, _+_, _*_, _/_, _%_, _≤_, _<_}
-use mathlib.Core.Path.{_≡_, refl, sym, ap, _∙_}
+use Prim.Native.Nat.{ℕ, _+_, _/_, _%_, _≤_, _<_}
+use mathlib.Core.Path.{_≡_, refl, ap, _∙_}
 use mathlib.Core.List.{List}
 use mathlib.Core.Option.{Option}
 use native.Mathlib.Omega.{arith}
 use native.Mathlib.Nat.{div-add-mod', add-mul}
 use lib.ListN.{getD}
 use Rattle.mapping.specs.Pages.{Rights, reserved, outside, PageState, absent}
-use Rattle.mapping.specs.Pass.{Progress, unfound, stopped, running, Passed, at-page, pass}
+use Rattle.mapping.specs.Pass.{Progress, unfound, stopped, running, at-page, pass}
 use Rattle.mapping.specs.Walk.{HoldsNothing, spanPages}
 use Rattle.mapping.proofs.Pass.{all-absent}
 use Rattle.mapping.proofs.Walk.{holds-nothing}

@@ -1,6 +1,6 @@
 -- The pages of a table of level 1 by its words: those of words that are alike are all absent, or mapped from a frame on with the same rights.
 use Prim.Native.Nat.{ℕ, _+_, _-_, _*_, _/_, _%_, _^_, _≤_, _<_}
-use mathlib.Core.Path.{_≡_, refl, sym, ap, _∙_}
+use mathlib.Core.Path.{_≡_, sym, ap, _∙_}
 use mathlib.Core.Bool.{true, false}
 use mathlib.Core.List.{List}
 use mathlib.Core.Option.{Option}
@@ -12,13 +12,12 @@ use lib.Dec.{lit<, eqb}
 use lib.ListN.{getD}
 use lib.Pow.{split, field, mod-mod-pow}
 use Rattle.laws.proofs.Cases.{by-cases}
-use Rattle.mapping.specs.Pages.{Rights, reserved, PageState, rights}
+use Rattle.mapping.specs.Pages.{Rights, reserved, PageState}
 use Rattle.mapping.specs.Pages as page
-use Rattle.mapping.specs.Walk.{Entry, maps, notPresent, reservedBit, joined, spanPages, wordFor, stateOf}
-use Rattle.image.specs.Entry.{set, rightsOf, entryBy}
+use Rattle.mapping.specs.Walk.{Entry, joined, wordFor, stateOf}
+use Rattle.image.specs.Entry.{set, rightsOf}
 use Rattle.image.specs.Look.{seen}
 use Rattle.image.specs.Pages.{pagesBy, Alike}
-use Rattle.image.specs.declared.look.Look.the-variants as look
 use Rattle.image.proofs.Fields.{entry-absent, entry-masked, entry-page}
 use Rattle.image.proofs.Looks.{reads, walk-word}
 

@@ -81,9 +81,6 @@ bits-from (rights false true false) = refl
 bits-from (rights false false true) = refl
 bits-from (rights false false false) = refl
 
-pub from-bits : (b : ℕ) → b < 8 → rightsBits (rightsFrom b) ≡ b
-from-bits b p = rw (digit-set 0 b, digit-set 1 b, digit-set 2 b) (omega arith)
-
 pub bits-lt : (h : Rights) → rightsBits h < 8
 bits-lt (rights w u x) = go w u x
   where

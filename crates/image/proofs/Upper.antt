@@ -1,6 +1,6 @@
 -- The pages under one entry above level 1, by what it says.
 use Prim.Native.Nat.{ℕ, _+_, _-_, _*_, _/_, _%_, _^_, _≤_, _<_}
-use mathlib.Core.Path.{_≡_, refl, sym, ap, _∙_}
+use mathlib.Core.Path.{_≡_, sym, ap, _∙_}
 use mathlib.Core.List.{List}
 use mathlib.Core.Option.{Option, none, some}
 use native.Mathlib.Omega.{arith}
@@ -8,7 +8,7 @@ use native.Mathlib.Nat.{div-add-mod'}
 use lib.Bits.{bitAnd, bitXor}
 use lib.ListN.{getD}
 use Rattle.mapping.specs.Pages.{Rights, reserved, outside, PageState, absent, broken, mapped}
-use Rattle.mapping.specs.Walk.{Walked, joined, spanPages, wordFor, follow, walk, stateOf}
+use Rattle.mapping.specs.Walk.{joined, spanPages, wordFor, follow, walk, stateOf}
 use Rattle.image.specs.Entry.{rightsOf, entryBy}
 use Rattle.image.specs.Look.{seen}
 use Rattle.image.specs.Memory.{Segment, placeFrom, tableFrom, tableWhere, tableIn}

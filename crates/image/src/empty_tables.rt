@@ -1,7 +1,6 @@
 // Tables that hold nothing, remembered in lent bytes: a byte for each 512 words, in it a bit for each level.
 use crate::memory::TABLE_WORDS;
 ghost use mathlib.Core.Path.{_≡_};
-ghost use mathlib.Core.Bool.{true};
 ghost use Prim.Native.Nat.{_<_};
 ghost use lib.ListN.{length, replicate};
 ghost use Rattle.image.specs.EmptyTables.{hasByte, marked, marking};

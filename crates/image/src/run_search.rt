@@ -23,7 +23,7 @@ ghost use Rattle.addr.specs.Item.{item};
 ghost use Rattle.frame.specs.Frame.{start as Frame·start, bytes as Frame·bytes};
 ghost use Rattle.page.specs.Page.{start as Page·start, bytes as Page·bytes};
 ghost use Rattle.image.specs.Found.{OfAnswer, ReportsFound};
-ghost use Rattle.image.specs.Search.{pageItem, frameItem, searchRefusal, searching, reportOf};
+ghost use Rattle.image.specs.Search.{pageItem, frameItem, searching, reportOf};
 
 pub enum StopReason {
     Reserved,

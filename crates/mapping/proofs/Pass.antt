@@ -8,8 +8,8 @@ use borrow.Author.Tests.{lt-ltb, le-ltb}
 use lib.Dec.{ltb}
 use Rattle.laws.proofs.Cases.{by-cases}
 use Rattle.mapping.specs.Pages.{Rights, Reason, PageState, absent, broken, mapped, Space}
-use Rattle.mapping.specs.Search.{Answer, end, run, first, nothing, line, halfEnd, answerAt, answerFrom, search}
-use Rattle.mapping.specs.Pass.{Progress, unfound, stopped, running, Passed, at-page, begins, pass, answerOf}
+use Rattle.mapping.specs.Search.{end, run, first, nothing, line, halfEnd, answerAt, answerFrom, search}
+use Rattle.mapping.specs.Pass.{Progress, unfound, stopped, running, at-page, begins, pass, answerOf}
 use Rattle.mapping.proofs.First.{first-ge, first-le, first-below, first-stop, first-other, first-all, first-congr}
 use Rattle.mapping.proofs.Spans.{go-on, found-inside}
 

@@ -1,28 +1,21 @@
 -- `find` tells the first run or stop from a page on.
 use Prim.Native.Nat.{ℕ, _+_, _-_, _*_, _/_, _^_, _≤_, _<_}
 use mathlib.Core.Path.{_≡_, refl, sym, ap, _∙_, subst}
-use mathlib.Core.Bool.{cond}
-use mathlib.Core.List.{List, [], _∷_}
-use mathlib.Core.Option.{Option}
+use mathlib.Core.List.{List}
 use native.Mathlib.Omega.{arith}
 use native.Mathlib.Nat.{div-eq-of-lt}
 use borrow.Author.Needs.{needs}
 use denote.Ref.{now}
-use lib.Dec.{ltb}
-use lib.ListN.{length}
 use lib.Pow.{pow-mono, pow-add, shl-shr}
-use Rattle.mapping.specs.Pages.{Rights, PageState, Space}
-use Rattle.mapping.specs.Pass.{Progress, unfound, stopped, running, Passed, at-page, pass, answerOf}
-use Rattle.mapping.specs.Search.{Answer, halfEnd}
-use Rattle.mapping.specs.Search as runs
+use Rattle.mapping.specs.Pages.{PageState, Space}
+use Rattle.mapping.specs.Pass.{Progress, unfound, stopped, running, at-page, pass, answerOf}
+use Rattle.mapping.specs.Search.{halfEnd}
 use Rattle.mapping.specs.Walk.{spanPages, spaceOf, walkedPages}
 use Rattle.mapping.proofs.Pass.{ran, passed-search}
 use Rattle.image.specs.Entry.{entryBy}
 use Rattle.image.specs.Found.{foundOf, answerIn, RunInside, Reaches}
 use Rattle.image.specs.Memory.{segmentsIn, tableFrom, tableIn}
-use Rattle.image.specs.Packed.{rightsOver}
-use Rattle.image.specs.Pages.{pagesBy}
-use Rattle.image.specs.Progress.{progressWords, Holds, GoesOn, Passes}
+use Rattle.image.specs.Progress.{progressWords, Holds}
 use Rattle.image.specs.Span.{after}
 use Rattle.image.proofs.Spanning.{wide}
 use Rattle.image.proofs.found.find.Statement.{statement}

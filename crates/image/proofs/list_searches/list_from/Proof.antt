@@ -1,6 +1,6 @@
 -- `list_from` writes the answers of the searches that have room.
 use Prim.Native.Nat.{ℕ, _-_, _^_}
-use mathlib.Core.Path.{_≡_, refl, sym, ap, _∙_}
+use mathlib.Core.Path.{_≡_, refl, ap, _∙_}
 use mathlib.Core.List.{List}
 use mathlib.Core.Option.{some}
 use native.Mathlib.Omega.{arith}

@@ -8,7 +8,7 @@ use borrow.Author.Needs.{needs}
 use denote.Ref.{now}
 use native.Mathlib.Nat.{add-mul, mul-le-mul-right}
 use lib.Bits.{bitAnd, and-le-r}
-use lib.ListN.{length, getD}
+use lib.ListN.{getD}
 use Rattle.laws.proofs.Cases.{by-cases}
 use Rattle.image.specs.Pages.{Alike}
 use Rattle.image.proofs.pages.alike.Statement.{statement}

@@ -1,5 +1,5 @@
 -- `pass_pages` meets its contract.
-use Prim.Native.Nat.{ℕ, _+_, _-_, _*_, _/_, _%_, _^_, _≤_, _<_}
+use Prim.Native.Nat.{ℕ, _+_, _-_, _/_, _%_, _^_, _≤_, _<_}
 use mathlib.Core.Path.{_≡_, refl, sym, ap, _∙_, subst}
 use mathlib.Core.Bool.{Bool, true, false}
 use mathlib.Core.List.{List}
@@ -7,7 +7,7 @@ use mathlib.Core.Option.{Option, none}
 use native.Mathlib.Omega.{arith}
 use borrow.Author.Needs.{needs}
 use denote.Ref.{now}
-use lib.Bits.{bitAnd, bitXor}
+use lib.Bits.{bitAnd}
 use lib.Dec.{lit<}
 use lib.ListN.{length, getD}
 use Rattle.laws.proofs.Cases.{test-fails, test-holds}

@@ -2,7 +2,6 @@
 use Prim.Native.Nat.{_/_, _%_, _^_}
 use mathlib.Core.Path.{_≡_}
 use native.Mathlib.Omega.{arith}
-use native.Mathlib.Nat.{mod-eq-of-lt}
 use lib.Bits.{and-mask}
 use Rattle.image.proofs.RightsBits.{digit-set, digit-clear}
 use borrow.Author.Needs.{needs}

@@ -1,5 +1,5 @@
 -- `pass_lowest` meets its contract.
-use Prim.Native.Nat.{ℕ, _+_, _%_, _≤_, _<_}
+use Prim.Native.Nat.{ℕ}
 use mathlib.Core.Path.{_≡_, refl, sym, ap, _∙_, subst}
 use mathlib.Core.Bool.{true}
 use mathlib.Core.List.{List}
@@ -7,15 +7,13 @@ use mathlib.Core.Option.{Option, none}
 use native.Mathlib.Omega.{arith}
 use borrow.Author.Needs.{needs}
 use denote.Ref.{now}
-use lib.ListN.{length, getD}
-use Rattle.mapping.specs.Pages.{PageState}
-use Rattle.mapping.specs.Walk.{HoldsNothing}
+use lib.ListN.{length}
 use Rattle.image.specs.EmptyTables.{TrueOf, marked}
 use Rattle.image.specs.Entry.{entryBy}
 use Rattle.image.specs.Memory.{tableFrom}
 use Rattle.image.specs.Packed.{rightsOver}
-use Rattle.image.specs.Pages.{pagesBy, PassesPages}
-use Rattle.image.specs.Progress.{GoesOn, Passes}
+use Rattle.image.specs.Pages.{pagesBy}
+use Rattle.image.specs.Progress.{Passes}
 use Rattle.image.specs.Span.{after}
 use Rattle.image.proofs.Emptiness.{passes-empty, now-empty}
 use Rattle.image.proofs.FourWords.{going-length}

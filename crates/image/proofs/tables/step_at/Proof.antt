@@ -3,13 +3,12 @@ use Prim.Native.Nat.{ℕ, _+_, _-_, _%_, _*_, _^_, _≤_, _<_}
 use mathlib.Core.Path.{_≡_, refl, sym, ap, _∙_, subst}
 use mathlib.Core.Bool.{Bool, true, false}
 use mathlib.Core.List.{List}
-use mathlib.Core.Option.{Option, none, some}
+use mathlib.Core.Option.{some}
 use native.Mathlib.Omega.{arith}
 use native.Mathlib.Nat.{mod-lt}
 use borrow.Author.Needs.{needs}
 use denote.Ref.{now}
-use lib.Bits.{bitAnd, bitXor}
-use lib.ListN.{length, getD}
+use lib.Bits.{bitAnd}
 use lib.Pow.{pow-pos}
 use Rattle.mapping.specs.Pages.{Rights, PageState, mapped}
 use Rattle.mapping.specs.Walk.{joined, spanPages, wordFor}
@@ -19,7 +18,7 @@ use Rattle.image.specs.Memory.{segmentsIn, placeFrom, placeOf, tableFrom
 use Rattle.image.specs.Packed.{rightsBits, rightsOver}
 use Rattle.image.specs.Pages.{pagesBy}
 use Rattle.image.specs.Progress.{GoesOn, Passes, Takes}
-use Rattle.image.specs.Span.{within, after}
+use Rattle.image.specs.Span.{after}
 use Rattle.image.specs.declared.look.Look.{Look}
 use Rattle.image.specs.declared.look.Look.the-variants as look
 use Rattle.image.specs.declared.memory.Place.{Place}

@@ -1,5 +1,4 @@
 -- `packed_page` meets its contract.
-use mathlib.Core.Path.{_∙_}
 use native.Mathlib.Omega.{arith}
 use borrow.Author.Needs.{needs}
 use Rattle.image.specs.Packed.{rightsOver, packed}

@@ -1,6 +1,6 @@
 -- `walk_page` meets its contract.
 use Prim.Native.Nat.{ℕ, _+_, _/_, _%_, _^_, _<_}
-use mathlib.Core.Path.{_≡_, refl, sym, ap, _∙_}
+use mathlib.Core.Path.{_≡_, sym, ap, _∙_}
 use mathlib.Core.Bool.{true}
 use mathlib.Core.List.{List}
 use mathlib.Core.Option.{Option}
@@ -8,11 +8,10 @@ use native.Mathlib.Omega.{arith}
 use native.Mathlib.Nat.{mod-lt, mod-one, div-one}
 use borrow.Author.Needs.{needs}
 use denote.Ref.{now}
-use lib.Bits.{bitAnd, bitXor}
+use lib.Bits.{bitAnd}
 use lib.Dec.{lit<}
 use lib.ListN.{length, getD}
 use Rattle.laws.proofs.Cases.{test-fails, test-holds}
-use Rattle.mapping.specs.Pages.{Rights}
 use Rattle.mapping.specs.Walk.{maps, mapped, joined, spanPages, wordFor, walk}
 use Rattle.image.specs.Entry.{set, rightsOf, entryBy}
 use Rattle.image.specs.Look.{seen}
