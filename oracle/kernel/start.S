@@ -2,12 +2,8 @@
 
     .text
 
-# The entry: the vector registers get a pattern, since they stand for a user program's.
     .globl _start
 _start:
-    .irp number, 0, 1, 2, 3, 4, 5, 6, 7, 8, 9, 10, 11, 12, 13, 14, 15
-    movdqu pattern(%rip), %xmm\number
-    .endr
     xor %ebp, %ebp
     and $-16, %rsp
     call run
@@ -15,9 +11,13 @@ _start:
     mov $60, %eax               # exit
     syscall
 
-# From here on the processor traps after each instruction.
+# From here on the processor traps after each instruction. The vector registers get a pattern, since they
+# stand for a user program's: what an earlier call left in them would hide a change to the same value.
     .globl trap_on
 trap_on:
+    .irp number, 0, 1, 2, 3, 4, 5, 6, 7, 8, 9, 10, 11, 12, 13, 14, 15
+    movdqu pattern(%rip), %xmm\number
+    .endr
     pushfq
     orq $0x100, (%rsp)
     popfq
