@@ -1,5 +1,5 @@
 -- The test of an item handed in, as the code has it: one number, 0 where the item is none to refuse.
-use mathlib.Core.Path.{_≡_, refl}
+use mathlib.Core.Path.{_≡_, refl, sym, _∙_}
 use mathlib.Core.Bool.{Bool, true, false}
 use Prim.Native.Nat.{ℕ, zero, suc, _+_, _-_, _*_, _%_, _^_, _≤_, _<_}
 use native.Mathlib.Omega.{arith}
@@ -33,6 +33,9 @@ module _ (s : Addresses) (a z : ℕ) where
 pub first-refused : (k m : ℕ) → (k ≡ 0 → ⊥) → firstRefusal k m ≡ k
 first-refused zero m h = absurd (h refl)
 first-refused (suc k) m h = refl
+
+pub refuses-first : (r k m : ℕ) → r ≡ k → (r ≡ 0 → ⊥) → (firstRefusal k m ≡ r) × (0 < r)
+refuses-first r k m e h = (first-refused k m (λ z. h (e ∙ z)) ∙ sym e, omega arith)
 
 -- the number for two items, by those for each: the first that is not 0
 module _ (s : Addresses) (a y b z : ℕ) where

@@ -13,11 +13,11 @@ use Rattle.mapping.specs.Pages.{Space}
 use Rattle.mapping.specs.Search.{leftAfter}
 use Rattle.addr.specs.declared.width.Width.the-variants.{Bits48}
 use Rattle.addr.proofs.Widths.{widths}
-use Rattle.image.specs.Translate.{pageNumber, rootTable}
-use Rattle.image.specs.Search.{searchRefusal, imagePages}
-use Rattle.image.specs.List.{Listing, room, settled, listing}
-use Rattle.image.specs.ListAgreement.{ChainsAgree}
-use Rattle.image.proofs.ListAgreement.{lists-agree}
+use Rattle.paging.specs.Translate.{pageNumber, rootTable}
+use Rattle.paging.specs.Search.{searchRefusal, imagePages}
+use Rattle.paging.specs.List.{Listing, room, settled, listing}
+use Rattle.paging.specs.ListAgreement.{ChainsAgree}
+use Rattle.paging.proofs.ListAgreement.{lists-agree}
 use Rattle.convention.specs.Status.{answered}
 use Rattle.convention.specs.Convention.{leaves}
 use Rattle.convention.specs.Images.{listedLength, leavesList}

@@ -8,9 +8,9 @@ use lib.Dec.{leb}
 use lib.ListN.{length}
 use Rattle.answer.specs.Outcome.{Outcome}
 use Rattle.addr.specs.Item.{Item}
-use Rattle.image.specs.Translate.{Translated, translatedWords}
-use Rattle.image.specs.Search.{Report, reportWords}
-use Rattle.image.specs.List.{Listed, Listing, Remembered}
+use Rattle.paging.specs.Translate.{Translated, translatedWords}
+use Rattle.paging.specs.Search.{Report, reportWords}
+use Rattle.paging.specs.List.{Listed, Listing, Remembered}
 use Rattle.convention.specs.Status.{noRoom}
 use Rattle.convention.specs.Convention.{Left, left, leaves, inWords}
 

@@ -8,9 +8,9 @@ use lib.Dec.{eqb}
 use lib.ListN.{length, getD}
 use Rattle.answer.specs.Outcome.{gives, refuses}
 use Rattle.addr.specs.Item.{item}
-use Rattle.image.specs.Translate.{imageRefusal}
-use Rattle.image.specs.List.{Listing, listing}
-use Rattle.image.specs.ListAgreement.{ChainsAgree}
+use Rattle.paging.specs.Translate.{imageRefusal}
+use Rattle.paging.specs.List.{Listing, listing}
+use Rattle.paging.specs.ListAgreement.{ChainsAgree}
 use Rattle.convention.specs.Status.{answered}
 use Rattle.convention.specs.Images.{LeftList, listedLength, leavesList}
 

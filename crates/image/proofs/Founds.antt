@@ -6,13 +6,13 @@ use Rattle.mapping.specs.Pages.{Rights, reserved, outside, PageState, Space}
 use Rattle.mapping.specs.Search.{Answer, end, stop, run, next}
 use Rattle.mapping.specs.Walk.{spanPages, spaceOf}
 use Rattle.answer.specs.Outcome.{gives}
-use Rattle.image.specs.Packed.{rightsBits, rightsFrom}
-use Rattle.image.specs.Span.{after}
-use Rattle.image.specs.Search.{report, pageItem, frameItem}
-use Rattle.image.specs.Search as reports
+use Rattle.paging.specs.Packed.{rightsBits, rightsFrom}
+use Rattle.paging.specs.Span.{after}
+use Rattle.paging.specs.Search.{report, pageItem, frameItem}
+use Rattle.paging.specs.Search as reports
 use Rattle.image.specs.Found.{foundOf, Kept, OfAnswer}
 use Rattle.image.specs.declared.found.Found.{Found}
-use Rattle.image.proofs.RightsBits.{bits-from}
+use Rattle.paging.proofs.RightsBits.{bits-from}
 
 -- the answer of a kind with these numbers
 pub data Kinds (f : Found) : Answer → Type 0 where
@@ -93,38 +93,38 @@ module _ (f : Found) (pages : ℕ) (p : OfAnswer pages f) where
       go (stopped-outside z) h = h .0
 
 -- what is reported of it, by its kind
-module _ (f : Found) (a : Answer) (e : f ≡ foundOf a) where
-  pub reported-end : f .kind ≡ 0 → gives reports.end ≡ gives (report 48 a)
+module _ (w : ℕ) (f : Found) (a : Answer) (e : f ≡ foundOf a) where
+  pub reported-end : f .kind ≡ 0 → gives reports.end ≡ gives (report w a)
   reported-end k = go (kinds f a e)
     where
-      go : {b : Answer} → Kinds f b → gives reports.end ≡ gives (report 48 b)
+      go : {b : Answer} → Kinds f b → gives reports.end ≡ gives (report w b)
       go (ended z y) = refl
       go (ran h z r) = absurd (omega arith)
       go (stopped-reserved z) = absurd (omega arith)
       go (stopped-outside z) = absurd (omega arith)
 
-  pub reported-run : f .kind ≡ 1 → gives (reports.run (pageItem 48 (f .page)) (frameItem (f .place)) (f .count) (rightsFrom (f .rights))) ≡ gives (report 48 a)
+  pub reported-run : f .kind ≡ 1 → gives (reports.run (pageItem w (f .page)) (frameItem (f .place)) (f .count) (rightsFrom (f .rights))) ≡ gives (report w a)
   reported-run k = go (kinds f a e)
     where
-      go : {b : Answer} → Kinds f b → gives (reports.run (pageItem 48 (f .page)) (frameItem (f .place)) (f .count) (rightsFrom (f .rights))) ≡ gives (report 48 b)
+      go : {b : Answer} → Kinds f b → gives (reports.run (pageItem w (f .page)) (frameItem (f .place)) (f .count) (rightsFrom (f .rights))) ≡ gives (report w b)
       go (ended z y) = absurd (omega arith)
-      go (ran h z r) = ap (λ (x : Rights). gives (reports.run (pageItem 48 (f .page)) (frameItem (f .place)) (f .count) x)) (ap rightsFrom r ∙ bits-from h)
+      go (ran h z r) = ap (λ (x : Rights). gives (reports.run (pageItem w (f .page)) (frameItem (f .place)) (f .count) x)) (ap rightsFrom r ∙ bits-from h)
       go (stopped-reserved z) = absurd (omega arith)
       go (stopped-outside z) = absurd (omega arith)
 
-  pub reported-reserved : f .kind ≡ 2 → gives (reports.stop (pageItem 48 (f .page)) (f .place) reserved) ≡ gives (report 48 a)
+  pub reported-reserved : f .kind ≡ 2 → gives (reports.stop (pageItem w (f .page)) (f .place) reserved) ≡ gives (report w a)
   reported-reserved k = go (kinds f a e)
     where
-      go : {b : Answer} → Kinds f b → gives (reports.stop (pageItem 48 (f .page)) (f .place) reserved) ≡ gives (report 48 b)
+      go : {b : Answer} → Kinds f b → gives (reports.stop (pageItem w (f .page)) (f .place) reserved) ≡ gives (report w b)
       go (ended z y) = absurd (omega arith)
       go (ran h z r) = absurd (omega arith)
       go (stopped-reserved z) = refl
       go (stopped-outside z) = absurd (omega arith)
 
-  pub reported-outside : (f .kind ≡ 0 → ⊥) → (f .kind ≡ 1 → ⊥) → (f .kind ≡ 2 → ⊥) → gives (reports.stop (pageItem 48 (f .page)) (f .place) outside) ≡ gives (report 48 a)
+  pub reported-outside : (f .kind ≡ 0 → ⊥) → (f .kind ≡ 1 → ⊥) → (f .kind ≡ 2 → ⊥) → gives (reports.stop (pageItem w (f .page)) (f .place) outside) ≡ gives (report w a)
   reported-outside n m o = go (kinds f a e)
     where
-      go : {b : Answer} → Kinds f b → gives (reports.stop (pageItem 48 (f .page)) (f .place) outside) ≡ gives (report 48 b)
+      go : {b : Answer} → Kinds f b → gives (reports.stop (pageItem w (f .page)) (f .place) outside) ≡ gives (report w b)
       go (ended z y) = absurd (n z)
       go (ran h z r) = absurd (m z)
       go (stopped-reserved z) = absurd (o z)

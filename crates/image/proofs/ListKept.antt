@@ -10,10 +10,10 @@ use Rattle.mapping.specs.Search.{Answer, search}
 use Rattle.mapping.specs.Walk.{Walked, absent, broken, mapped, walk, allRights, spanPages, stateOf, walkedPages}
 use Rattle.mapping.proofs.Found.{Found, no-more, at-stop, at-run, in-half, starts, finds}
 use Rattle.mapping.proofs.Walk.{broken-span, spanned}
-use Rattle.image.specs.Entry.{entryBy}
-use Rattle.image.specs.Packed.{Fits}
+use Rattle.paging.specs.Entry.{entryBy}
+use Rattle.paging.specs.Packed.{Fits}
 use Rattle.image.specs.Found.{Kept}
-use Rattle.image.proofs.Walked.{fits}
+use Rattle.paging.proofs.Walked.{fits}
 
 -- a page's frame is below 2^40, a broken entry's level is 1 to 5
 abbrev KeptState : PageState → Type 0

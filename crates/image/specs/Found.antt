@@ -9,9 +9,10 @@ use Rattle.mapping.specs.Pages.{reserved, outside, PageState}
 use Rattle.mapping.specs.Pass.{Progress, unfound, stopped, running}
 use Rattle.mapping.specs.Search.{Answer, end, stop, run, next}
 use Rattle.mapping.specs.Walk.{spanPages, spaceOf}
-use Rattle.image.specs.Packed.{rightsBits}
-use Rattle.image.specs.Progress.{progressWords}
-use Rattle.image.specs.Search.{report, reportOf}
+use Rattle.paging.specs.Packed.{rightsBits}
+use Rattle.paging.specs.Progress.{progressWords}
+use Rattle.paging.specs.Search.{report}
+use Rattle.image.specs.Search.{reportOf}
 use Rattle.image.specs.declared.found.Found.{Found}
 use Rattle.image.specs.declared.run_search.SearchAnswer.{SearchAnswer}
 
@@ -53,6 +54,6 @@ answerIn pages (running q g h) x = run q g (min x (cond (ltb q (pages / 2)) (pag
 abbrev pub FoundBy : (pages : ℕ) → List ℕ → ℕ → Found → Type 0
 FoundBy pages words x f = (s : Progress) → words ≡ progressWords s → f ≡ foundOf (answerIn pages s x)
 
--- what is reported of it
-abbrev pub ReportsFound : Found → SearchAnswer → Type 0
-ReportsFound f r = (a : Answer) → f ≡ foundOf a → reportOf r ≡ gives (report 48 a)
+-- what is reported of it, at the width `w`
+abbrev pub ReportsFound : (w : ℕ) → Found → SearchAnswer → Type 0
+ReportsFound w f r = (a : Answer) → f ≡ foundOf a → reportOf r ≡ gives (report w a)

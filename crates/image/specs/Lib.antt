@@ -1,17 +1,4 @@
-pub mod Entry
-pub mod Memory
-pub mod Span
-pub mod Look
-pub mod Packed
-pub mod Pages
-pub mod Progress
-pub mod EmptyTables
 pub mod Tables
-pub mod Root
-pub mod Translate
 pub mod Search
 pub mod Found
 pub mod List
-pub mod Agreement
-pub mod ListAgreement
-pub mod Unread

@@ -4,13 +4,13 @@ use mathlib.Core.Path.{_≡_}
 use mathlib.Core.List.{List}
 use mathlib.Core.Option.{Option}
 use Rattle.mapping.specs.Walk.{wordFor}
-use Rattle.image.specs.EmptyTables.{TrueOf}
-use Rattle.image.specs.Entry.{entryBy}
-use Rattle.image.specs.Memory.{Segment, tableFrom, tableIn, total}
-use Rattle.image.specs.Packed.{rightsOver}
-use Rattle.image.specs.Pages.{pagesBy}
-use Rattle.image.specs.Progress.{Passes}
-use Rattle.image.specs.Span.{after}
+use Rattle.paging.specs.EmptyTables.{TrueOf}
+use Rattle.paging.specs.Entry.{entryBy}
+use Rattle.paging.specs.Memory.{Segment, tableFrom, tableIn, total}
+use Rattle.paging.specs.Packed.{rightsOver}
+use Rattle.paging.specs.Pages.{pagesBy}
+use Rattle.paging.specs.Progress.{Passes}
+use Rattle.paging.specs.Span.{after}
 use Rattle.image.specs.declared.tables.Step.{Step}
 use Rattle.image.specs.declared.tables.Step.the-variants as step
 

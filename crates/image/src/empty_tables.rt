@@ -1,9 +1,9 @@
 // Tables that hold nothing, remembered in lent bytes: a byte for each 512 words, in it a bit for each level.
-use crate::memory::TABLE_WORDS;
+use paging::TABLE_WORDS;
 ghost use mathlib.Core.Path.{_≡_};
 ghost use Prim.Native.Nat.{_<_};
 ghost use lib.ListN.{length, replicate};
-ghost use Rattle.image.specs.EmptyTables.{hasByte, marked, marking};
+ghost use Rattle.paging.specs.EmptyTables.{hasByte, marked, marking};
 
 // Whether the table at a place has a byte: those of a list of segments lie at multiples of 512 words.
 fn has_byte(bytes: &[u8], place: usize) -> bool

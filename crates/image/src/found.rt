@@ -1,23 +1,22 @@
 // The search for mapped runs, by the numbers of pages and frames.
-use crate::memory::TABLE_WORDS;
-use crate::rights::ALL_RIGHTS;
 use crate::span::span_end;
 use crate::span::span_pages;
 use crate::tables::pass_table;
+use addr::Width;
+use paging::ALL_RIGHTS;
+use paging::levels;
+use paging::page_count;
 ghost use mathlib.Core.Bool.{cond};
 ghost use mathlib.Core.Path.{_≡_};
-ghost use Prim.Native.Nat.{_+_, _/_, _≤_, _<_};
+ghost use Prim.Native.Nat.{_/_, _<_};
 ghost use lib.Dec.{ltb};
-ghost use lib.ListN.{length};
+ghost use Rattle.addr.specs.Widths.{levelsOf};
 ghost use Rattle.mapping.specs.Search.{search};
-ghost use Rattle.mapping.specs.Walk.{spanPages, walkedPages};
-ghost use Rattle.image.specs.EmptyTables.{TrueOf};
-ghost use Rattle.image.specs.Entry.{entryBy};
+ghost use Rattle.mapping.specs.Walk.{spanPages};
+ghost use Rattle.paging.specs.EmptyTables.{TrueIn, StaysTrue};
+ghost use Rattle.paging.specs.Memory.{segmentsIn, Inside};
+ghost use Rattle.paging.specs.Search.{pagesFrom};
 ghost use Rattle.image.specs.Found.{OfAnswer, Leaves, Reaches, FoundBy, foundOf};
-ghost use Rattle.image.specs.Memory.{segmentsIn, tableFrom, tableIn, total};
-
-// How many 4 KiB pages there are with four levels.
-pub(crate) const PAGES: u64 = 0x10_0000_0000;
 
 // The kinds of answers: nothing follows, a run, a stop at an entry with a reserved bit set, a stop at one whose table is not in the image.
 pub const END: u64 = 0;
@@ -80,29 +79,29 @@ pub(crate) fn find(
     words: &[u64],
     segments: &[u64],
     empty: &mut [u8],
-    levels: u64,
-    reserved: u64,
     root: usize,
+    width: Width,
+    reserved: u64,
     page: u64,
 ) -> Found
-    requires { ⌜ (2 ≤ levels) × (levels ≤ 5) × (page < spanPages levels) × (root + 512 ≤ length (now words)) × (total (segmentsIn (now segments)) ≡ length (now words)) × TrueOf (entryBy reserved) (tableIn (segmentsIn (now segments)) (now words)) (now words) (now empty) ⌝ }
-    ensures { λ r. ⌜ (r ≡ foundOf (search (walkedPages (entryBy reserved) (tableIn (segmentsIn (now (segments .entry))) (now (words .entry))) levels (tableFrom (now (words .entry)) root)) page)) × (length (now (empty .exit)) ≡ length (now (empty .entry))) × TrueOf (entryBy reserved) (tableIn (segmentsIn (now (segments .entry))) (now (words .entry))) (now (words .entry)) (now (empty .exit)) ⌝ }
+    requires { ⌜ (page < spanPages (levelsOf width)) × TrueIn reserved (segmentsIn (now segments)) (now words) (now empty) × Inside (segmentsIn (now segments)) (now words) root ⌝ }
+    ensures { λ r. ⌜ (r ≡ foundOf (search (pagesFrom reserved (segmentsIn (now (segments .entry))) (now (words .entry)) (levelsOf width) root) page)) × StaysTrue reserved (segmentsIn (now (segments .entry))) (now (words .entry)) (now (empty .entry)) (now (empty .exit)) ⌝ }
 {
     let mut progress = [0u64; PROGRESS_WORDS];
-    let pages = span_pages(levels - 1);
+    let level = levels(width);
     let reached = pass_table(
         words,
         segments,
         empty,
         &mut progress,
         root,
-        levels,
-        pages,
+        level,
+        span_pages(level - 1),
         page,
         ALL_RIGHTS,
         reserved,
     );
-    found_of(&progress, reached, pages * TABLE_WORDS as u64)
+    found_of(&progress, reached, page_count(width))
 }
 
 // The next page that an answer leaves, of so many pages.

@@ -1,30 +1,32 @@
 // A list of searches, into lent words.
 use crate::empty_tables::forget;
 use crate::found::Found;
-use crate::found::PAGES;
 use crate::found::RUN;
 use crate::found::find;
 use crate::found::next_page;
-use crate::refusal::Root;
-use crate::refusal::search_place;
-use crate::run_search::numbered_page;
-use crate::translation::LEVELS;
-use crate::translation::NO_MASK;
-use crate::translation::page_number;
+use crate::numbers::numbered_page;
 use addr::PhysAddr;
 use addr::VirtAddr;
+use addr::Width;
 use page::Page;
+use paging::NO_MASK;
+use paging::Root;
+use paging::image_place;
+use paging::page_count;
+use paging::page_number;
+use paging::search_place;
 ghost use mathlib.Core.Path.{_≡_};
-ghost use Prim.Native.Nat.{_+_, _^_, _≤_, _<_};
+ghost use Prim.Native.Nat.{_+_, _≤_, _<_};
 ghost use lib.ListN.{length};
 ghost use Rattle.answer.specs.Outcome.{gives};
-ghost use Rattle.mapping.specs.Walk.{walkedPages};
-ghost use Rattle.image.specs.EmptyTables.{TrueOf};
-ghost use Rattle.image.specs.Entry.{entryBy};
+ghost use Rattle.addr.specs.Widths.{widthOf, levelsOf};
+ghost use Rattle.mapping.specs.Walk.{spanPages};
+ghost use Rattle.paging.specs.EmptyTables.{TrueIn, StaysTrue};
+ghost use Rattle.paging.specs.List.{listing, settled, Remembered};
+ghost use Rattle.paging.specs.Memory.{segmentsIn, Inside};
+ghost use Rattle.paging.specs.Search.{answerWords, pagesFrom};
 ghost use Rattle.image.specs.Found.{OfAnswer};
-ghost use Rattle.image.specs.List.{listingOf, listing, settled, Remembered, Stored};
-ghost use Rattle.image.specs.Memory.{segmentsIn, tableFrom, tableIn, total};
-ghost use Rattle.image.specs.Search.{answerWords};
+ghost use Rattle.image.specs.List.{listingOf, Stored};
 
 pub enum ListAnswer {
     // The search is over, with so many answers written.
@@ -38,12 +40,12 @@ pub enum ListAnswer {
 pub const ANSWER_WORDS: usize = 5;
 
 // Stores an answer: its kind, the address of its page, the address of its frame or its level, its count, its rights as bits.
-fn store(out: &mut [u64], at: usize, found: Found)
-    requires { ⌜ (at + answerWords ≤ length (now out)) × OfAnswer (2 ^ 36) found ⌝ }
-    ensures { λ _. ⌜ Stored at found (now (out .entry)) (now (out .exit)) ⌝ }
+fn store(out: &mut [u64], at: usize, width: Width, found: Found)
+    requires { ⌜ (at + answerWords ≤ length (now out)) × OfAnswer (spanPages (levelsOf width)) found ⌝ }
+    ensures { λ _. ⌜ Stored (widthOf width) at found (now (out .entry)) (now (out .exit)) ⌝ }
 {
     let kind = found.kind;
-    let page = numbered_page(found.page);
+    let page = numbered_page(width, found.page);
     let place = if kind == RUN {
         found.place * 0x1000
     } else {
@@ -61,23 +63,26 @@ fn list_from(
     words: &[u64],
     segments: &[u64],
     root: usize,
+    width: Width,
+    reserved: u64,
     page: u64,
     empty: &mut [u8],
     out: &mut [u64],
 ) -> ListAnswer
-    requires { ⌜ (page < 2 ^ 36) × (root + 512 ≤ length (now words)) × (total (segmentsIn (now segments)) ≡ length (now words)) × TrueOf (entryBy 0) (tableIn (segmentsIn (now segments)) (now words)) (now words) (now empty) ⌝ }
-    ensures { λ r. ⌜ (listingOf r (now (out .exit)) ≡ settled 48 (gives (walkedPages (entryBy 0) (tableIn (segmentsIn (now (segments .entry))) (now (words .entry))) 4 (tableFrom (now (words .entry)) root))) page (now (out .entry))) × (length (now (empty .exit)) ≡ length (now (empty .entry))) × TrueOf (entryBy 0) (tableIn (segmentsIn (now (segments .entry))) (now (words .entry))) (now (words .entry)) (now (empty .exit)) ⌝ }
+    requires { ⌜ (page < spanPages (levelsOf width)) × TrueIn reserved (segmentsIn (now segments)) (now words) (now empty) × Inside (segmentsIn (now segments)) (now words) root ⌝ }
+    ensures { λ r. ⌜ (listingOf r (now (out .exit)) ≡ settled (widthOf width) (gives (pagesFrom reserved (segmentsIn (now (segments .entry))) (now (words .entry)) (levelsOf width) root)) page (now (out .entry))) × StaysTrue reserved (segmentsIn (now (segments .entry))) (now (words .entry)) (now (empty .entry)) (now (empty .exit)) ⌝ }
 {
+    let pages = page_count(width);
     let mut at = page;
     let mut written = 0;
     let mut used = 0;
-    while at < PAGES {
+    while at < pages {
         if out.len() - used < ANSWER_WORDS {
-            return ListAnswer::More(written, numbered_page(at));
+            return ListAnswer::More(written, numbered_page(width, at));
         }
-        let found = find(words, segments, empty, LEVELS, NO_MASK, root, at);
-        store(out, used, found);
-        at = next_page(found, PAGES);
+        let found = find(words, segments, empty, root, width, reserved, at);
+        store(out, used, width, found);
+        at = next_page(found, pages);
         written += 1;
         used += ANSWER_WORDS;
     }
@@ -98,12 +103,27 @@ pub fn list(
     ensures { λ r. ⌜ (listingOf r (now (out .exit)) ≡ listing 48 4 (now (image .entry)) (base .0) (root .0) (page .0) (now (out .entry))) × Remembered 48 (now (image .entry)) (base .0) (root .0) (page .0) (now («empty_tables» .entry)) (now («empty_tables» .exit)) ⌝ }
 {
     let segments = [base.0, image.len() as u64];
-    let place = search_place(&segments, base.0, root.0, page.0);
+    let width = Width::Bits48;
+    let place = search_place(
+        image_place(image.len() as u64, &segments, base.0, root.0),
+        width,
+        page.0,
+    );
     match place {
         Root::Refused(number) => ListAnswer::Refused(number),
         Root::At(at) => {
             forget(empty_tables);
-            list_from(image, &segments, at, page_number(page.0), empty_tables, out)
+            let from = page_number(width, page.0);
+            list_from(
+                image,
+                &segments,
+                at,
+                width,
+                NO_MASK,
+                from,
+                empty_tables,
+                out,
+            )
         }
     }
 }

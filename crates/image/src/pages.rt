@@ -1,18 +1,18 @@
 // The search in a table of level 1.
-use crate::entry::frame_in;
-use crate::entry::is_set;
 use crate::found::END;
 use crate::found::RESERVED;
-use crate::memory::TABLE_WORDS;
 use crate::progress::stop;
 use crate::progress::take;
-use crate::rights::allows;
-use crate::rights::rights_bits;
+use paging::TABLE_WORDS;
+use paging::allows;
+use paging::frame_in;
+use paging::is_present;
+use paging::rights_bits;
 ghost use mathlib.Core.Path.{_≡_};
 ghost use Prim.Native.Nat.{_+_, _*_, _^_, _<_};
 ghost use lib.ListN.{length};
-ghost use Rattle.image.specs.Pages.{Alike, PassesPages};
-ghost use Rattle.image.specs.Progress.{GoesOn};
+ghost use Rattle.paging.specs.Pages.{Alike, PassesPages};
+ghost use Rattle.paging.specs.Progress.{GoesOn};
 
 // The bits of an entry of level 1 that are read: present, the rights and the frame.
 const READ: u64 = 0x800f_ffff_ffff_f007;
@@ -55,7 +55,7 @@ pub(crate) fn pass_pages(
     while i < TABLE_WORDS {
         let page = start + i as u64;
         let word = table[i];
-        let present = is_set(word, 0);
+        let present = is_present(word);
         if present {
             if word & reserved != 0 {
                 stop(progress, RESERVED, page, 1);

@@ -2,7 +2,7 @@
 use crate::found::END;
 use crate::found::RUN;
 ghost use Prim.Native.Nat.{_^_, _<_};
-ghost use Rattle.image.specs.Progress.{GoesOn, Halts, Takes};
+ghost use Rattle.paging.specs.Progress.{GoesOn, Halts, Takes};
 
 // Stops at a broken page, whose kind this is, unless a run is found before it.
 pub(crate) fn stop(progress: &mut [u64], kind: u64, page: u64, level: u64)

@@ -4,26 +4,30 @@ use crate::found::Found;
 use crate::found::RESERVED;
 use crate::found::RUN;
 use crate::found::find;
-use crate::refusal::Root;
-use crate::refusal::search_place;
-use crate::rights::Rights;
-use crate::translation::LEVELS;
-use crate::translation::NO_MASK;
-use crate::translation::page_number;
-use crate::translation::rights_from;
+use crate::numbers::numbered_frame;
+use crate::numbers::numbered_page;
 use addr::PhysAddr;
 use addr::VirtAddr;
 use addr::Width;
 use frame::PhysFrame;
 use page::Page;
-use table::PageSize;
+use paging::NO_MASK;
+use paging::Rights;
+use paging::Root;
+use paging::image_place;
+use paging::page_number;
+use paging::rights_from;
+use paging::search_place;
 ghost use mathlib.Core.Path.{_≡_};
-ghost use Prim.Native.Nat.{_<_, _^_};
-ghost use Rattle.addr.specs.Item.{item};
-ghost use Rattle.frame.specs.Frame.{start as Frame·start, bytes as Frame·bytes};
-ghost use Rattle.page.specs.Page.{start as Page·start, bytes as Page·bytes};
+ghost use Prim.Native.Nat.{_<_};
+ghost use Rattle.answer.specs.Outcome.{gives};
+ghost use Rattle.addr.specs.Widths.{widthOf, levelsOf};
+ghost use Rattle.mapping.specs.Search.{search};
+ghost use Rattle.mapping.specs.Walk.{spanPages};
+ghost use Rattle.paging.specs.Memory.{segmentsIn, Inside};
+ghost use Rattle.paging.specs.Search.{pagesFrom, report, searching};
 ghost use Rattle.image.specs.Found.{OfAnswer, ReportsFound};
-ghost use Rattle.image.specs.Search.{pageItem, frameItem, searching, reportOf};
+ghost use Rattle.image.specs.Search.{reportOf};
 
 pub enum StopReason {
     Reserved,
@@ -40,38 +44,16 @@ pub enum SearchAnswer {
     Refused(u8),
 }
 
-// The 4 KiB page with a number.
-pub(crate) fn numbered_page(number: u64) -> Page
-    requires { ⌜ number < 2 ^ 36 ⌝ }
-    ensures { λ r. ⌜ item (Page·start r) (Page·bytes r) ≡ pageItem 48 number ⌝ }
-{
-    Page {
-        start_address: VirtAddr(Width::Bits48.truncate(number * 0x1000)),
-        size: PageSize::Size4KiB,
-    }
-}
-
-// The 4 KiB frame with a number.
-fn numbered_frame(number: u64) -> PhysFrame
-    requires { ⌜ number < 2 ^ 40 ⌝ }
-    ensures { λ r. ⌜ item (Frame·start r) (Frame·bytes r) ≡ frameItem number ⌝ }
-{
-    PhysFrame {
-        start_address: PhysAddr(number * 0x1000),
-        size: PageSize::Size4KiB,
-    }
-}
-
 // What is reported of an answer.
-fn answer_of(found: Found) -> SearchAnswer
-    requires { ⌜ OfAnswer (2 ^ 36) found ⌝ }
-    ensures { λ r. ⌜ ReportsFound found r ⌝ }
+fn answer_of(width: Width, found: Found) -> SearchAnswer
+    requires { ⌜ OfAnswer (spanPages (levelsOf width)) found ⌝ }
+    ensures { λ r. ⌜ ReportsFound (widthOf width) found r ⌝ }
 {
     let kind = found.kind;
     if kind == END {
         return SearchAnswer::End;
     }
-    let page = numbered_page(found.page);
+    let page = numbered_page(width, found.page);
     if kind == RUN {
         return SearchAnswer::Run(
             page,
@@ -86,27 +68,47 @@ fn answer_of(found: Found) -> SearchAnswer
     SearchAnswer::Stop(page, found.place, StopReason::Outside)
 }
 
+// The first run or stop from a page on, by its number, in the tables below the root at a place.
+fn search_from(
+    words: &[u64],
+    segments: &[u64],
+    root: usize,
+    width: Width,
+    reserved: u64,
+    page: u64,
+) -> SearchAnswer
+    requires { ⌜ (page < spanPages (levelsOf width)) × Inside (segmentsIn (now segments)) (now words) root ⌝ }
+    ensures { λ r. ⌜ reportOf r ≡ gives (report (widthOf width) (search (pagesFrom reserved (segmentsIn (now (segments .entry))) (now (words .entry)) (levelsOf width) root) page)) ⌝ }
+{
+    let mut empty_tables = [0u8; 0];
+    let found = find(
+        words,
+        segments,
+        &mut empty_tables,
+        root,
+        width,
+        reserved,
+        page,
+    );
+    answer_of(width, found)
+}
+
 // The first run or stop from a 4 KiB page on.
 pub fn search(image: &[u64], base: PhysAddr, root: PhysAddr, page: VirtAddr) -> SearchAnswer
     ensures { λ r. ⌜ reportOf r ≡ searching 48 4 (now (image .entry)) (base .0) (root .0) (page .0) ⌝ }
 {
     let segments = [base.0, image.len() as u64];
-    let place = search_place(&segments, base.0, root.0, page.0);
+    let width = Width::Bits48;
+    let place = search_place(
+        image_place(image.len() as u64, &segments, base.0, root.0),
+        width,
+        page.0,
+    );
     match place {
         Root::Refused(number) => SearchAnswer::Refused(number),
         Root::At(at) => {
-            let mut empty_tables = [0u8; 0];
-            let from = page_number(page.0);
-            let found = find(
-                image,
-                &segments,
-                &mut empty_tables,
-                LEVELS,
-                NO_MASK,
-                at,
-                from,
-            );
-            answer_of(found)
+            let from = page_number(width, page.0);
+            search_from(image, &segments, at, width, NO_MASK, from)
         }
     }
 }

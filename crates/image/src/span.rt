@@ -3,7 +3,7 @@ use table::SPANS;
 ghost use mathlib.Core.Path.{_≡_};
 ghost use Prim.Native.Nat.{_^_, _<_, _≤_};
 ghost use Rattle.mapping.specs.Walk.{spanPages};
-ghost use Rattle.image.specs.Span.{within, after};
+ghost use Rattle.paging.specs.Span.{after};
 
 // The pages that an entry of level below + 1 spans.
 pub(crate) fn span_pages(below: u64) -> u64
@@ -11,14 +11,6 @@ pub(crate) fn span_pages(below: u64) -> u64
     ensures { λ r. ⌜ r ≡ spanPages below ⌝ }
 {
     SPANS[below as usize] >> 12
-}
-
-// How far into its span a page is; pages is a span's number of pages.
-pub(crate) fn within_span(page: u64, below: u64, pages: u64) -> u64
-    requires { ⌜ pages ≡ spanPages below ⌝ }
-    ensures { λ r. ⌜ r ≡ within below page ⌝ }
-{
-    page & (pages - 1)
 }
 
 // The page after the last of the span that a page is in.

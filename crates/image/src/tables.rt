@@ -4,27 +4,25 @@ use crate::empty_tables::remember;
 use crate::found::END;
 use crate::found::OUTSIDE;
 use crate::found::RESERVED;
-use crate::look::Look;
-use crate::look::look_word;
-use crate::memory::Place;
-use crate::memory::TABLE_WORDS;
-use crate::memory::table_at;
-use crate::memory::table_place;
 use crate::pages::pass_pages;
 use crate::progress::stop;
 use crate::progress::take;
-use crate::rights::allows;
-use crate::rights::rights_bits;
 use crate::span::span_end;
-use crate::span::within_span;
+use paging::Look;
+use paging::Place;
+use paging::TABLE_WORDS;
+use paging::allows;
+use paging::look_word;
+use paging::rights_bits;
+use paging::table_place;
+use paging::within_span;
 ghost use mathlib.Core.Path.{_≡_};
 ghost use Prim.Native.Nat.{_+_, _-_, _^_, _≤_, _<_};
 ghost use lib.ListN.{length};
 ghost use Rattle.mapping.specs.Walk.{spanPages};
-ghost use Rattle.image.specs.EmptyTables.{TrueOf};
-ghost use Rattle.image.specs.Entry.{entryBy};
-ghost use Rattle.image.specs.Memory.{segmentsIn, tableIn, total};
-ghost use Rattle.image.specs.Progress.{GoesOn};
+ghost use Rattle.paging.specs.EmptyTables.{TrueIn};
+ghost use Rattle.paging.specs.Memory.{segmentsIn, tableFrom, tableIn, total, Inside};
+ghost use Rattle.paging.specs.Progress.{GoesOn};
 ghost use Rattle.image.specs.Tables.{Searched, SearchedLowest, Steps};
 
 // What the search does at an entry.
@@ -39,19 +37,19 @@ pub(crate) enum Step {
 
 // What the search does at the entry that a page is under, a word of a table of level below + 1.
 fn step_at(
+    lent: u64,
     segments: &[u64],
     progress: &mut [u64],
     word: u64,
     below: u64,
-    pages: u64,
     page: u64,
     rights: u64,
     reserved: u64,
 ) -> Step
-    requires { ⌜ GoesOn (now progress) page × (1 ≤ below) × (below ≤ 4) × (pages ≡ spanPages below) × (page < 2 ^ 45) × (total (segmentsIn (now segments)) < 2 ^ 64) ⌝ }
+    requires { ⌜ GoesOn (now progress) page × (1 ≤ below) × (below ≤ 4) × (page < 2 ^ 45) × (total (segmentsIn (now segments)) ≡ lent) ⌝ }
     ensures { λ r. ⌜ Steps (segmentsIn (now (segments .entry))) reserved word below page rights (now (progress .entry)) (now (progress .exit)) r ⌝ }
 {
-    let look = look_word(word, below, reserved);
+    let look = look_word(word, below - 1, reserved);
     match look {
         Look::Absent => {
             if progress[0] == END {
@@ -64,7 +62,7 @@ fn step_at(
             Step::Halt
         }
         Look::Leaf(first, word) => {
-            let frame = first + within_span(page, below, pages);
+            let frame = first + within_span(page, below);
             let taken = take(progress, page, frame, rights_bits(rights & allows(word)));
             if taken {
                 return Step::Pass;
@@ -72,7 +70,7 @@ fn step_at(
             Step::Halt
         }
         Look::Next(address, word) => {
-            let next = table_place(segments, address);
+            let next = table_place(lent, segments, address);
             match next {
                 Place::Outside => {
                     stop(progress, OUTSIDE, page, below + 1);
@@ -82,6 +80,14 @@ fn step_at(
             }
         }
     }
+}
+
+// The table at a place, as a part of the lent words.
+fn table_at(words: &[u64], place: usize) -> &[u64]
+    requires { ⌜ place + 512 ≤ length (now words) ⌝ }
+    ensures { λ r. ⌜ now r ≡ tableFrom (now (words .entry)) place ⌝ }
+{
+    &words[place..place + TABLE_WORDS]
 }
 
 // Goes over the pages of the table of level 1 at a place, from one on.
@@ -127,7 +133,7 @@ pub(crate) fn pass_table(
     rights: u64,
     reserved: u64,
 ) -> u64
-    requires { ⌜ GoesOn (now progress) from × TrueOf (entryBy reserved) (tableIn (segmentsIn (now segments)) (now words)) (now words) (now empty) × (2 ≤ level) × (level ≤ 5) × (pages ≡ spanPages (level - 1)) × (from < 2 ^ 45) × (place + 512 ≤ length (now words)) × (total (segmentsIn (now segments)) ≡ length (now words)) ⌝ }
+    requires { ⌜ GoesOn (now progress) from × TrueIn reserved (segmentsIn (now segments)) (now words) (now empty) × (2 ≤ level) × (level ≤ 5) × (pages ≡ spanPages (level - 1)) × (from < 2 ^ 45) × Inside (segmentsIn (now segments)) (now words) place ⌝ }
     ensures { λ r. ⌜ (length (now (empty .exit)) ≡ length (now (empty .entry))) × Searched reserved (tableIn (segmentsIn (now (segments .entry))) (now (words .entry))) (now (words .entry)) level place rights from (now (progress .entry)) (now (progress .exit)) (now (empty .exit)) r ⌝ }
 {
     let below = level - 1;
@@ -142,7 +148,16 @@ pub(crate) fn pass_table(
     while at < end {
         let next = span_end(at, below, pages);
         let word = words[place + (at >> (9 * below)) as usize % TABLE_WORDS];
-        let step = step_at(segments, progress, word, below, pages, at, rights, reserved);
+        let step = step_at(
+            words.len() as u64,
+            segments,
+            progress,
+            word,
+            below,
+            at,
+            rights,
+            reserved,
+        );
         match step {
             Step::Halt => {
                 return at;
@@ -179,7 +194,7 @@ pub(crate) fn pass_table(
         at = next;
     }
     if progress[0] == END {
-        if within_span(from, level, pages * TABLE_WORDS as u64) == 0 {
+        if within_span(from, level) == 0 {
             remember(empty, place, below);
         }
     }

@@ -1,5 +1,5 @@
 -- Pages drawn one by one, at either width: each of them once and in order, from either end or both, where no draw is refused; and a draw with n as n + 1 draws with n = 0.
-use Prim.Native.Nat.{ℕ, zero, suc, _-_, _%_, _^_, _≤_, _<_}
+use Prim.Native.Nat.{ℕ, zero, suc, _%_, _^_, _≤_, _<_}
 use mathlib.Core.Path.{_≡_, refl, sym, _∙_}
 use mathlib.Core.Bool.{Bool, true, false, cond}
 use mathlib.Core.List.{List, reverse}

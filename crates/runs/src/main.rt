@@ -25,7 +25,7 @@ use page::Page;
 ghost use Prim.Native.Nat.{_+_, _*_, _/_, _≤_};
 ghost use lib.ListN.{length};
 ghost use Rattle.listing.specs.Text.{lineBytes};
-ghost use Rattle.image.specs.Search.{answerWords};
+ghost use Rattle.paging.specs.Search.{answerWords};
 ghost use Rattle.runs.specs.Sizes.{outputBytes};
 
 // The most runs and stops that are printed.

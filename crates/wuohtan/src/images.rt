@@ -8,11 +8,11 @@ use convention::give_search;
 use convention::give_translation;
 use image::list;
 use image::search;
-use image::translate;
+use translation::translate;
 ghost use mathlib.Core.Path.{_≡_};
-ghost use Rattle.image.specs.List.{listing};
-ghost use Rattle.image.specs.Search.{searching};
-ghost use Rattle.image.specs.Translate.{translation};
+ghost use Rattle.paging.specs.List.{listing};
+ghost use Rattle.paging.specs.Search.{searching};
+ghost use Rattle.paging.specs.Translate.{translation};
 ghost use Rattle.convention.specs.Convention.{left, leaves};
 ghost use Rattle.convention.specs.Images.{translationWords, searchWords, leftList, leavesList, LeftBytes};
 

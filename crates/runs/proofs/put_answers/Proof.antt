@@ -4,7 +4,7 @@ use mathlib.Core.Path.{_≡_}
 use lib.ListN.{length}
 use borrow.Author.Needs.{needs}
 use Rattle.listing.specs.Text.{lineBytes}
-use Rattle.image.specs.Search.{answerWords}
+use Rattle.paging.specs.Search.{answerWords}
 use Rattle.runs.proofs.put_answers.Statement.{statement}
 use Rattle.runs.proofs.put_answers.Tie as tie
 

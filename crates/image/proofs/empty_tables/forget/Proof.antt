@@ -4,7 +4,7 @@ use mathlib.Core.Path.{_≡_, refl, ap, _∙_}
 use mathlib.Core.Logic.{⊎-elim}
 use native.Mathlib.Omega.{arith}
 use lib.ListN.{length, length-set, take, replicate}
-use Rattle.image.proofs.Remembering.{one-cleared, one-clear, all-cleared}
+use Rattle.paging.proofs.Remembering.{one-cleared, one-clear, all-cleared}
 use Rattle.image.proofs.empty_tables.forget.Statement.{statement}
 use Rattle.image.proofs.empty_tables.forget.Tie as tie
 

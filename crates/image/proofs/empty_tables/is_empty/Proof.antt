@@ -3,7 +3,7 @@ use Prim.Native.Nat.{_/_}
 use mathlib.Core.Path.{sym, _∙_}
 use native.Mathlib.Omega.{arith}
 use borrow.Author.Needs.{needs}
-use Rattle.image.proofs.Remembering.{has-place, read-bit, no-bit}
+use Rattle.paging.proofs.Remembering.{has-place, read-bit, no-bit}
 use Rattle.image.proofs.empty_tables.is_empty.Statement.{statement}
 use Rattle.image.proofs.empty_tables.is_empty.Tie as tie
 

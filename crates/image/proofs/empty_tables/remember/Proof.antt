@@ -3,7 +3,7 @@ use Prim.Native.Nat.{_/_}
 use native.Mathlib.Omega.{arith}
 use borrow.Author.Needs.{needs}
 use lib.ListN.{getD}
-use Rattle.image.proofs.Remembering.{has-place, whole-has, byte-fits, write-bit, write-none}
+use Rattle.paging.proofs.Remembering.{has-place, whole-has, byte-fits, write-bit, write-none}
 use Rattle.image.proofs.empty_tables.remember.Statement.{statement}
 use Rattle.image.proofs.empty_tables.remember.Tie as tie
 

@@ -4,7 +4,7 @@ use mathlib.Core.Path.{ap, _∙_}
 use mathlib.Core.Logic.{⊎-elim}
 use native.Mathlib.Omega.{arith}
 use borrow.Author.Needs.{needs}
-use Rattle.image.proofs.FourWords.{reached-length, reached-run, found-run, found-other}
+use Rattle.image.proofs.FoundWords.{reached-length, reached-run, found-run, found-other}
 use Rattle.image.proofs.found.found_of.Statement.{statement}
 use Rattle.image.proofs.found.found_of.Tie as tie
 

@@ -1,22 +1,26 @@
 -- `store` stores an answer's five words.
-use Prim.Native.Nat.{ℕ, _+_, _^_}
+use Prim.Native.Nat.{ℕ, _+_, _*_}
 use mathlib.Core.Path.{ap, _∙_}
 use mathlib.Core.List.{List, _++_}
 use mathlib.Core.Logic.{⊎-elim}
 use native.Mathlib.Omega.{arith}
 use borrow.Author.Needs.{needs}
 use lib.ListN.{length-set, take, drop}
+use lib.Pow.{pow-pos}
+use Rattle.mapping.specs.Walk.{spanPages}
 use Rattle.addr.specs.Item.{Item}
+use Rattle.addr.specs.Widths.{levelsOf}
 use Rattle.image.proofs.Founds.{run-bounds, page-bound}
-use Rattle.image.proofs.ListWords.{five-words, five-stores}
+use Rattle.paging.proofs.ListWords.{five-stores}
+use Rattle.image.proofs.ListWords.{five-words}
 use Rattle.image.proofs.list_searches.store.Statement.{statement}
 use Rattle.image.proofs.list_searches.store.Tie as tie
 
 numbered-page-requires : tie.Need-numbered-page-requires
-numbered-page-requires c κs = let s = c .before in page-bound (s .args .found) (2 ^ 36) (s .pre .1) (omega arith)
+numbered-page-requires c κs = let s = c .before in omega (arith, s .pre .1 .0, page-bound (s .args .found) (spanPages (levelsOf (s .args .width))) (s .pre .1) (pow-pos (9 * levelsOf (s .args .width))))
 
 mul-place : tie.Need-mul-place
-mul-place c = let s = c .before .before .before .before in omega (arith, run-bounds (s .args .found) (2 ^ 36) (s .pre .1) (c .before .if1 .taken))
+mul-place c = let s = c .before .before .before .before in omega (arith, run-bounds (s .args .found) (spanPages (levelsOf (s .args .width))) (s .pre .1) (c .before .if1 .taken))
 
 mul-out : tie.Need-mul-out
 mul-out c = search needs
@@ -68,7 +72,7 @@ returns c a e =
     let b = c .before .before .before .args in
     five-stores (b .out .now) (b .at) (b .found .kind) (c .before .numbered-page .result .«start_address» .0) (c .if1 .place) (b .found .count) (b .found .rights) (omega arith)
     ∙ ap (λ (l : List ℕ). take (b .at) (b .out .now) ++ (l ++ drop (b .at + 5) (b .out .now)))
-    (five-words (b .found) a (c .before .numbered-page .result .«start_address» .0) (c .if1 .place) e (ap (λ (i : Item). i .start) (c .before .numbered-page .ensures))
+    (five-words _ (b .found) a (c .before .numbered-page .result .«start_address» .0) (c .if1 .place) e (ap (λ (i : Item). i .start) (c .before .numbered-page .ensures))
     (λ k. ⊎-elim (λ w. omega arith) (λ w. omega arith) (c .if1 .came)) (λ k. ⊎-elim (λ w. omega arith) (λ w. omega arith) (c .if1 .came)))
 
 pub store-spec : {M : Type 1} → statement M

@@ -10,7 +10,7 @@ use native.Mathlib.Nat.{add-mul, mul-le-mul-right}
 use lib.Bits.{bitAnd, and-le-r}
 use lib.ListN.{getD}
 use Rattle.laws.proofs.Cases.{by-cases}
-use Rattle.image.specs.Pages.{Alike}
+use Rattle.paging.specs.Pages.{Alike}
 use Rattle.image.proofs.pages.alike.Statement.{statement}
 use Rattle.image.proofs.pages.alike.Tie as tie
 

@@ -13,15 +13,15 @@ use lib.ListN.{length, getD}
 use Rattle.laws.proofs.Cases.{test-fails, test-holds}
 use Rattle.mapping.specs.Pages.{Rights, PageState, mapped}
 use Rattle.mapping.specs.Walk.{joined}
-use Rattle.image.specs.Entry.{set, rightsOf}
-use Rattle.image.specs.Packed.{rightsBits, rightsOver}
-use Rattle.image.specs.Pages.{pagesBy}
-use Rattle.image.specs.Progress.{GoesOn, Passes, Takes}
-use Rattle.image.specs.Span.{after}
-use Rattle.image.proofs.FourWords.{going-length}
-use Rattle.image.proofs.Lowest.{page-absent, page-masked, page-mapped, all-absent, all-mapped}
-use Rattle.image.proofs.Passing.{passes-none, passes-length, passes-on, passes-in, still-goes, passes-absent, ends-absent, stops-reserved, passes-mapped, ends-mapped}
-use Rattle.image.proofs.RightsBits.{rights-step}
+use Rattle.paging.specs.Entry.{set, rightsOf}
+use Rattle.paging.specs.Packed.{rightsBits, rightsOver}
+use Rattle.paging.specs.Pages.{pagesBy}
+use Rattle.paging.specs.Progress.{GoesOn, Passes, Takes}
+use Rattle.paging.specs.Span.{after}
+use Rattle.paging.proofs.FourWords.{going-length}
+use Rattle.paging.proofs.Lowest.{page-absent, page-masked, page-mapped, all-absent, all-mapped}
+use Rattle.paging.proofs.Passing.{passes-none, passes-length, passes-on, passes-in, still-goes, passes-absent, ends-absent, stops-reserved, passes-mapped, ends-mapped}
+use Rattle.paging.proofs.RightsBits.{rights-step}
 use Rattle.image.proofs.pages.pass_pages.Statement.{statement}
 use Rattle.image.proofs.pages.pass_pages.Tie as tie
 
@@ -120,12 +120,12 @@ mul-word c = search needs
 shared-slice-read-word : tie.Need-shared-slice-read-word Inv-loop μ-loop
 shared-slice-read-word c = omega (arith, given (c .before .before) .pre, c .before .loop-test .taken)
 
-is-set-requires : tie.Need-is-set-requires Inv-loop μ-loop
-is-set-requires c κs = search needs
+is-present-requires : tie.Need-is-present-requires Inv-loop μ-loop
+is-present-requires c κs = search needs
 
 -- the entry is present
 present : (c : tie.Then1 Inv-loop μ-loop) → set 0 (word (c .before .before .before .before)) ≡ true
-present c = sym (c .before .is-set .ensures) ∙ c .if1 .taken
+present c = sym (c .before .is-present .ensures) ∙ c .if1 .taken
 
 stop-requires : tie.Need-stop-requires Inv-loop μ-loop
 stop-requires c κs = c .before .before .before .before .before .before .loop .inv .2
@@ -245,7 +245,7 @@ module _ (c : tie.Else1 Inv-loop μ-loop) where
   within = c .before .before .before .loop-test .taken
 
   hidden : set 0 (word passing) ≡ false
-  hidden = sym (c .before .is-set .ensures) ∙ c .if1 .left
+  hidden = sym (c .before .is-present .ensures) ∙ c .if1 .left
 
   run-ends : (getD (passing .loop .progress) 0 0 ≡ 0 → ⊥) → (memory : ℕ → Option (List ℕ))
       → Passes (pages passing memory) (given passing .args .from) (after 1 (given passing .args .from)) (now (given passing .args .progress)) (passing .loop .progress) (here passing)
@@ -309,7 +309,7 @@ pass-pages-spec =
     add-page
     mul-word
     shared-slice-read-word
-    is-set-requires
+    is-present-requires
     stop-requires
     same-length
     returns

@@ -2,7 +2,7 @@
 use native.Mathlib.Omega.{arith}
 use borrow.Author.Needs.{needs}
 use lib.ListN.{length-set}
-use Rattle.image.proofs.FourWords.{going-length, stop-here, stop-run}
+use Rattle.paging.proofs.FourWords.{going-length, stop-here, stop-run}
 use Rattle.image.proofs.progress.stop.Statement.{statement}
 use Rattle.image.proofs.progress.stop.Tie as tie
 

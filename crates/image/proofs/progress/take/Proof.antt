@@ -2,7 +2,7 @@
 use native.Mathlib.Omega.{arith}
 use borrow.Author.Needs.{needs}
 use lib.ListN.{length-set}
-use Rattle.image.proofs.FourWords.{going-length, going-run, take-first, take-same, take-other}
+use Rattle.paging.proofs.FourWords.{going-length, going-run, take-first, take-same, take-other}
 use Rattle.image.proofs.progress.take.Statement.{statement}
 use Rattle.image.proofs.progress.take.Tie as tie
 

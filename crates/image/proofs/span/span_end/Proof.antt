@@ -6,7 +6,7 @@ use native.Mathlib.Nat.{div-add-mod', add-mul}
 use lib.Bits.{bitAnd, and-mask}
 use lib.Pow.{pow-pos, pow-mono}
 use Rattle.mapping.specs.Walk.{spanPages}
-use Rattle.image.specs.Span.{after}
+use Rattle.paging.specs.Span.{after}
 use Rattle.image.proofs.span.span_end.Statement.{statement}
 use Rattle.image.proofs.span.span_end.Tie as tie
 

@@ -11,25 +11,24 @@ use denote.Ref.{now}
 use lib.Dec.{lit<}
 use lib.ListN.{length, getD, take, drop}
 use lib.Pow.{pow-mono}
-use lib.Seq.{getD-take, getD-drop}
 use Rattle.mapping.specs.Pages.{PageState}
 use Rattle.mapping.specs.Walk.{HoldsNothing, spanPages, wordFor}
-use Rattle.image.specs.EmptyTables.{TrueOf, marked}
-use Rattle.image.specs.Entry.{entryBy}
-use Rattle.image.specs.Memory.{segmentsIn, tableFrom, tableIn, total}
-use Rattle.image.specs.Packed.{rightsOver}
-use Rattle.image.specs.Pages.{pagesBy}
-use Rattle.image.specs.Progress.{GoesOn, Passes}
-use Rattle.image.specs.Span.{after}
+use Rattle.paging.specs.EmptyTables.{TrueOf, marked}
+use Rattle.paging.specs.Entry.{entryBy}
+use Rattle.paging.specs.Memory.{segmentsIn, tableFrom, tableIn, total}
+use Rattle.paging.specs.Packed.{rightsOver}
+use Rattle.paging.specs.Pages.{pagesBy}
+use Rattle.paging.specs.Progress.{GoesOn, Passes}
+use Rattle.paging.specs.Span.{after}
 use Rattle.image.specs.Tables.{Searched, SearchedLowest, Steps}
 use Rattle.image.specs.declared.tables.Step.{Step}
 use Rattle.image.specs.declared.tables.Step.the-variants as step
-use Rattle.image.proofs.Emptiness.{passes-empty, now-empty}
-use Rattle.image.proofs.FourWords.{going-length}
-use Rattle.image.proofs.Passing.{passes-none, passes-on, passes-in, passes-congr, passes-length, passes-le, still-goes}
-use Rattle.image.proofs.Places.{whole-part}
-use Rattle.image.proofs.Remembering.{marked-true, marking-true, marking-length}
-use Rattle.image.proofs.Spanning.{ahead-of, nested, after-top, wide, narrow}
+use Rattle.paging.proofs.Emptiness.{passes-empty, now-empty}
+use Rattle.paging.proofs.FourWords.{going-length}
+use Rattle.paging.proofs.Passing.{passes-none, passes-on, passes-in, passes-congr, passes-length, passes-le, still-goes}
+use Rattle.paging.proofs.Places.{whole-part, table-word}
+use Rattle.paging.proofs.Remembering.{marked-true, marking-true, marking-length}
+use Rattle.paging.proofs.Spanning.{ahead-of, nested, after-top, wide, narrow}
 use borrow.Fn.Kinds.{In}
 use borrow.Fn.PlainCycle.{Measures, is, falls, and}
 use Rattle.image.proofs.tables.pass_table.Reads as pass-table
@@ -38,7 +37,7 @@ use Rattle.image.proofs.tables.+pass_table.Lts-pass_table as pass-table
 use Rattle.image.proofs.empty_tables.is_empty.Reads as is-empty-reads
 use Rattle.image.proofs.empty_tables.remember.Reads as remember-reads
 use Rattle.image.proofs.span.span_end.Reads as span-end-reads
-use Rattle.image.proofs.span.within_span.Reads as within-span-reads
+use Rattle.paging.proofs.within_span.Reads as within-span-reads
 use Rattle.image.proofs.tables.pass_lowest.Reads as pass-lowest-reads
 use Rattle.image.proofs.tables.step_at.Reads as step-at-reads
 use Rattle.image.proofs.tables.+pass_table.{statement}
@@ -232,23 +231,23 @@ module _ (t : ℕ) (c : pass-table-lts.After-span-end2 (calls t) (pass-table-at 
   index-lt = mod-lt (here / spanPages (n t turn)) (lit< tt)
 
   the-word : wordFor (table t turn) (n t turn) here ≡ getD (words t turn) (given t turn .args .place + index) 0
-  the-word = getD-take 512 (drop (given t turn .args .place) (words t turn)) index 0 index-lt ∙ getD-drop (given t turn .args .place) (words t turn) index 0
+  the-word = table-word (words t turn) (given t turn .args .place) index index-lt
 
 pass-table-add-word : (t : ℕ) → pass-table-lts.Need-add-word (calls t) (pass-table-at t) pass-table.Post pass-table-Inv-loop pass-table-μ-loop
-pass-table-add-word t c = omega (arith, given t (turn t c) .pre .1 .6, index-lt t c)
+pass-table-add-word t c = omega (arith, given t (turn t c) .pre .1 .6 .0, index-lt t c)
 
 pass-table-mul-word-2 : (t : ℕ) → pass-table-lts.Need-mul-word-2 (calls t) (pass-table-at t) pass-table.Post pass-table-Inv-loop pass-table-μ-loop
 pass-table-mul-word-2 t c = search needs
 
 pass-table-shared-slice-read-word : (t : ℕ) → pass-table-lts.Need-shared-slice-read-word (calls t) (pass-table-at t) pass-table.Post pass-table-Inv-loop pass-table-μ-loop
-pass-table-shared-slice-read-word t c = omega (arith, given t (turn t (c .before)) .pre .1 .6, index-lt t (c .before))
+pass-table-shared-slice-read-word t c = omega (arith, given t (turn t (c .before)) .pre .1 .6 .0, index-lt t (c .before))
 
 pass-table-step-at-requires : (t : ℕ) → pass-table-lts.Need-step-at-requires (calls t) (pass-table-at t) pass-table.Post pass-table-Inv-loop pass-table-μ-loop
 pass-table-step-at-requires t c κs =
     let e = c .before .before in
     let k = turn t e in
     let s = given t k in
-    (k .loop .inv .0, omega (arith, s .pre .1 .2), omega (arith, s .pre .1 .3), s .pre .1 .4, omega (arith, e .before .loop-test .taken, end-top t k), omega (arith, s .pre .1 .7))
+    (k .loop .inv .0, omega (arith, s .pre .1 .2), omega (arith, s .pre .1 .3), omega (arith, e .before .loop-test .taken, end-top t k), s .pre .1 .6 .1)
 
 pass-table-enum-told : (t : ℕ) → pass-table-lts.Need-enum-told (calls t) (pass-table-at t) pass-table.Post pass-table-Inv-loop pass-table-μ-loop
 pass-table-enum-told t c = search needs
@@ -262,7 +261,7 @@ module _ (t : ℕ) (c : pass-table-lts.After-step-at (calls t) (pass-table-at t)
   loop = turn t entry
 
   abbrev now-words : List ℕ
-  now-words = c .step-at .last .1 .0
+  now-words = c .step-at .last .1 .1 .0
 
   steps : (s : Step) → c .step-at .result ≡ s
       → Steps (segmentsIn (now (given t loop .args .segments))) (given t loop .args .reserved) (getD (words t loop) (given t loop .args .place + index t entry) 0) (n t loop) (here t entry) (given t loop .args .rights) (loop .loop .progress) now-words s
@@ -344,7 +343,7 @@ module _ (t : ℕ) (c : pass-table-lts.After-image (calls t) (pass-table-at t) p
   going = subst (λ (w : List ℕ). GoesOn w at-page) (sym (down .0)) (below .loop .inv .0)
 
   has-room : lower + 512 ≤ length (words t below)
-  has-room = omega (arith, down .1, given t below .pre .1 .7)
+  has-room = omega (arith, down .1, given t below .pre .1 .6 .1)
 
   top : at-page < 2 ^ 45
   top = omega (arith, entry t stepped .before .loop-test .taken, end-top t below)
@@ -439,8 +438,10 @@ pass-table-pass-table-requires t c κs =
         omega (arith, s .pre .1 .3),
         span,
         top t i,
-        subst (λ (l : List ℕ). lower t i + 512 ≤ length l) w (has-room t i),
-        subst (λ (l : List ℕ). total (segmentsIn l) ≡ length (take (length (words t k) - 0) (drop 0 (words t k)))) g (s .pre .1 .7 ∙ ap (λ (l : List ℕ). length l) w),
+        (
+          subst (λ (l : List ℕ). lower t i + 512 ≤ length l) w (has-room t i),
+          subst (λ (l : List ℕ). total (segmentsIn l) ≡ length (take (length (words t k) - 0) (drop 0 (words t k)))) g (s .pre .1 .6 .1 ∙ ap (λ (l : List ℕ). length l) w),
+        ),
       ),
     )
 
@@ -534,11 +535,8 @@ module _ (t : ℕ) (c : pass-table-lts.After-loop (calls t) (pass-table-at t) pa
 pass-table-slice-read-if6 : (t : ℕ) → pass-table-lts.Need-slice-read-if6 (calls t) (pass-table-at t) pass-table.Post pass-table-Inv-loop pass-table-μ-loop
 pass-table-slice-read-if6 t c = omega (arith, four t (c .before))
 
-pass-table-mul-within-span : (t : ℕ) → pass-table-lts.Need-mul-within-span (calls t) (pass-table-at t) pass-table.Post pass-table-Inv-loop pass-table-μ-loop
-pass-table-mul-within-span t c = let s = given t (last t (c .before .before)) in omega (arith, table-pages t s, span-small t s)
-
 pass-table-within-span-requires : (t : ℕ) → pass-table-lts.Need-within-span-requires (calls t) (pass-table-at t) pass-table.Post pass-table-Inv-loop pass-table-μ-loop
-pass-table-within-span-requires t c κs = table-pages t (given t (last t (c .before .before)))
+pass-table-within-span-requires t c κs = search needs
 
 pass-table-remember-requires : (t : ℕ) → pass-table-lts.Need-remember-requires (calls t) (pass-table-at t) pass-table.Post pass-table-Inv-loop pass-table-μ-loop
 pass-table-remember-requires t c κs = let s = given t (last t (c .before .before .before .before .before)) in omega (arith, s .pre .1 .3)
@@ -561,7 +559,7 @@ pass-table-returns-5 t c =
       (
         done t l,
         subst (λ (m : List ℕ). TrueOf (entryBy (a .reserved)) (memory t k) (words t k) m) (sym (r .remember .ensures))
-            (marking-true (entryBy (a .reserved)) (memory t k) (words t k) (k .loop .empty) (k .loop .inv .1) (a .place) (n t k) (given t k .pre .1 .6)
+            (marking-true (entryBy (a .reserved)) (memory t k) (words t k) (k .loop .empty) (k .loop .inv .1) (a .place) (n t k) (given t k .pre .1 .6 .0)
             (now-empty (a .reserved) (memory t k) (n t k + 1) (table t k) (rightsOver (a .rights)) (a .from) (first t k) (given t k .pre .1 .0) (end t k) (k .loop .progress) whole all (r .before .before .before .before .if6 .taken))),
       ),
     )
@@ -635,7 +633,6 @@ pub +pass-table-spec : {M : Type 1} → statement M
     (pass-table-loop-less-3 t)
     (pass-table-loop-again-3 t)
     (pass-table-slice-read-if6 t)
-    (pass-table-mul-within-span t)
     (pass-table-within-span-requires t)
     (pass-table-remember-requires t)
     (pass-table-same-length-8 t)

@@ -8,18 +8,18 @@ use native.Mathlib.Omega.{arith}
 use borrow.Author.Needs.{needs}
 use denote.Ref.{now}
 use lib.ListN.{length}
-use Rattle.image.specs.EmptyTables.{TrueOf, marked}
-use Rattle.image.specs.Entry.{entryBy}
-use Rattle.image.specs.Memory.{tableFrom}
-use Rattle.image.specs.Packed.{rightsOver}
-use Rattle.image.specs.Pages.{pagesBy}
-use Rattle.image.specs.Progress.{Passes}
-use Rattle.image.specs.Span.{after}
-use Rattle.image.proofs.Emptiness.{passes-empty, now-empty}
-use Rattle.image.proofs.FourWords.{going-length}
-use Rattle.image.proofs.Passing.{passes-length}
-use Rattle.image.proofs.Places.{table-length, whole-part}
-use Rattle.image.proofs.Remembering.{marked-true, marking-true, marking-length}
+use Rattle.paging.specs.EmptyTables.{TrueOf, marked}
+use Rattle.paging.specs.Entry.{entryBy}
+use Rattle.paging.specs.Memory.{tableFrom}
+use Rattle.paging.specs.Packed.{rightsOver}
+use Rattle.paging.specs.Pages.{pagesBy}
+use Rattle.paging.specs.Progress.{Passes}
+use Rattle.paging.specs.Span.{after}
+use Rattle.paging.proofs.Emptiness.{passes-empty, now-empty}
+use Rattle.paging.proofs.FourWords.{going-length}
+use Rattle.paging.proofs.Passing.{passes-length}
+use Rattle.paging.proofs.Places.{table-length, whole-part}
+use Rattle.paging.proofs.Remembering.{marked-true, marking-true, marking-length}
 use Rattle.image.proofs.tables.pass_lowest.Statement.{statement}
 use Rattle.image.proofs.tables.pass_lowest.Tie as tie
 

@@ -12,26 +12,30 @@ use lib.Bits.{bitAnd}
 use lib.Pow.{pow-pos}
 use Rattle.mapping.specs.Pages.{Rights, PageState, mapped}
 use Rattle.mapping.specs.Walk.{joined, spanPages, wordFor}
-use Rattle.image.specs.Entry.{rightsOf, entryBy}
-use Rattle.image.specs.Look.{seen}
-use Rattle.image.specs.Memory.{segmentsIn, placeFrom, placeOf, tableFrom, tableIn}
-use Rattle.image.specs.Packed.{rightsBits, rightsOver}
-use Rattle.image.specs.Pages.{pagesBy}
-use Rattle.image.specs.Progress.{GoesOn, Passes, Takes}
-use Rattle.image.specs.Span.{after}
-use Rattle.image.specs.declared.look.Look.{Look}
-use Rattle.image.specs.declared.look.Look.the-variants as look
-use Rattle.image.specs.declared.memory.Place.{Place}
-use Rattle.image.specs.declared.memory.Place.the-variants as place
-use Rattle.image.proofs.FourWords.{going-length}
-use Rattle.image.proofs.Looks.{Sound, sound-entry}
-use Rattle.image.proofs.Passing.{takes-length, reserved-length, outside-length, passes-absent, ends-absent, stops-reserved, stops-outside, passes-mapped, ends-mapped}
-use Rattle.image.proofs.Places.{place-inside}
-use Rattle.image.proofs.RightsBits.{rights-step}
-use Rattle.image.proofs.Spanning.{ahead-of}
-use Rattle.image.proofs.Upper.{under-absent, under-reserved, under-leaf, under-outside, under-table}
+use Rattle.paging.specs.Entry.{rightsOf, entryBy}
+use Rattle.paging.specs.Look.{seen}
+use Rattle.paging.specs.Memory.{segmentsIn, placeFrom, tableFrom, tableIn}
+use Rattle.paging.specs.Place.{placeOf}
+use Rattle.paging.specs.Packed.{rightsBits, rightsOver}
+use Rattle.paging.specs.Pages.{pagesBy}
+use Rattle.paging.specs.Progress.{GoesOn, Passes, Takes}
+use Rattle.paging.specs.Span.{after}
+use Rattle.paging.specs.declared.look.Look.{Look}
+use Rattle.paging.specs.declared.look.Look.the-variants as look
+use Rattle.paging.specs.declared.memory.Place.{Place}
+use Rattle.paging.specs.declared.memory.Place.the-variants as place
+use Rattle.paging.proofs.FourWords.{going-length}
+use Rattle.paging.proofs.Looks.{Sound, sound-entry}
+use Rattle.paging.proofs.Passing.{takes-length, reserved-length, outside-length, passes-absent, ends-absent, stops-reserved, stops-outside, passes-mapped, ends-mapped}
+use Rattle.paging.proofs.Places.{place-inside, place-reached}
+use Rattle.paging.proofs.RightsBits.{rights-step}
+use Rattle.paging.proofs.Spanning.{ahead-of}
+use Rattle.paging.proofs.Upper.{under-absent, under-reserved, under-leaf, under-outside, under-table}
 use Rattle.image.proofs.tables.step_at.Statement.{statement}
 use Rattle.image.proofs.tables.step_at.Tie as tie
+
+sub-look-word : tie.Need-sub-look-word
+sub-look-word c = search needs
 
 look-word-requires : tie.Need-look-word-requires
 look-word-requires c κs = search needs
@@ -48,7 +52,9 @@ module _ (c : tie.After-look-word) where
   goes = given .pre .0
 
   told : (l : Look) → c .look-word .result ≡ l → seen (given .args .word) (entryBy (given .args .reserved) (given .args .below + 1) (given .args .word)) ≡ l
-  told l e = sym (c .look-word .ensures) ∙ e
+  told l e =
+      let level : given .args .below - 1 + 2 ≡ given .args .below + 1 = omega (arith, given .pre .1) in
+      sym (ap (λ (n : ℕ). seen (given .args .word) (entryBy (given .args .reserved) n (given .args .word))) level) ∙ sym (c .look-word .ensures) ∙ e
 
   sound : (l : Look) → c .look-word .result ≡ l → Sound (given .args .below) l
   sound l e = subst (λ (k : Look). Sound (given .args .below) k) (told l e) (sound-entry (given .args .reserved) (given .args .below) (given .args .word))
@@ -112,7 +118,7 @@ rights-bits-requires : tie.Need-rights-bits-requires
 rights-bits-requires c κs = search needs
 
 take-requires : tie.Need-take-requires
-take-requires c κs = let k = looked (c .before .before .before) in (goes k, given k .pre .4)
+take-requires c κs = let k = looked (c .before .before .before) in (goes k, given k .pre .3)
 
 -- what was taken
 module _ (c : tie.After-take) where
@@ -189,7 +195,9 @@ module _ (c : tie.After-table-place) where
   seen-next = c .before .before .look2 .given .1
 
   found-at : (p : Place) → c .table-place .result ≡ p → placeFrom 0 (segmentsIn (now (given looked-up .args .segments))) address ≡ placeOf p
-  found-at p e = sym (c .table-place .ensures) ∙ ap placeOf e
+  found-at p e =
+      let a = given looked-up .args in
+      sym (place-reached (segmentsIn (now (a .segments))) (a .lent) address (given looked-up .pre .4)) ∙ sym (c .table-place .ensures) ∙ ap placeOf e
 
 enum-told-3 : tie.Need-enum-told-3
 enum-told-3 c = search needs
@@ -273,6 +281,7 @@ pub step-at-spec : {M : Type 1} → statement M
 step-at-spec =
     tie.close
     (tie.spec
+    sub-look-word
     look-word-requires
     enum-told
     slice-read-if1

@@ -1,0 +1,49 @@
+-- What is known of tables that hold nothing: such a table is passed at once, and a table that was gone through whole with nothing found is one.
+use Prim.Native.Nat.{ℕ, _+_, _/_, _%_, _≤_, _<_}
+use mathlib.Core.Path.{_≡_, refl, ap, _∙_}
+use mathlib.Core.List.{List}
+use mathlib.Core.Option.{Option}
+use native.Mathlib.Omega.{arith}
+use native.Mathlib.Nat.{div-add-mod', add-mul}
+use lib.ListN.{getD}
+use Rattle.mapping.specs.Pages.{Rights, reserved, outside, PageState, absent}
+use Rattle.mapping.specs.Pass.{Progress, unfound, stopped, running, at-page, pass}
+use Rattle.mapping.specs.Walk.{HoldsNothing, spanPages}
+use Rattle.mapping.proofs.Pass.{all-absent}
+use Rattle.mapping.proofs.Walk.{holds-nothing}
+use Rattle.paging.specs.Entry.{entryBy}
+use Rattle.paging.specs.Pages.{pagesBy}
+use Rattle.paging.specs.Progress.{progressWords, Holds, GoesOn, Passes}
+use Rattle.paging.specs.Span.{after}
+use Rattle.paging.proofs.Passing.{goes, passes-absent}
+use Rattle.paging.proofs.Spanning.{ahead-of}
+
+module _ (mask : ℕ) (memory : ℕ → Option (List ℕ)) (l : ℕ) (t : List ℕ) (r : Rights) (a : ℕ) (w : List ℕ) (g : GoesOn w a) where
+  abbrev pages : ℕ → PageState
+  pages = pagesBy mask memory l t r
+
+  pub passes-empty : HoldsNothing (entryBy mask) memory l t → getD w 0 0 ≡ 0 → Passes pages a (after l a) w w (after l a)
+  passes-empty h z = passes-absent pages a (after l a) w (ahead-of l a) g (λ x i j. h r x) z
+
+  -- what the first word says of the words after
+  first-word : (s : Progress) (v : List ℕ) → v ≡ progressWords s → getD v 0 0 ≡ 0 → s ≡ unfound
+  first-word unfound v e z = refl
+  first-word (running q c h) v e z = absurd (let o : getD v 0 0 ≡ 1 = ap (λ (k : List ℕ). getD k 0 0) e in omega arith)
+  first-word (stopped q n reserved) v e z = absurd (let o : getD v 0 0 ≡ 2 = ap (λ (k : List ℕ). getD k 0 0) e in omega arith)
+  first-word (stopped q n outside) v e z = absurd (let o : getD v 0 0 ≡ 3 = ap (λ (k : List ℕ). getD k 0 0) e in omega arith)
+
+  -- a run that is found stays found
+  pub found-nothing : (e y : ℕ) (v : List ℕ) → a ≤ e → Passes pages a e w v y → getD v 0 0 ≡ 0 → (x : ℕ) → a ≤ x → x < e → pages x ≡ absent
+  unfolding pass
+  found-nothing e y v b p z x i j = go (g .0) (g .1) (p (g .0) (g .1))
+    where
+      go : (s : Progress) → w ≡ progressWords s → (u : Progress) × (v ≡ progressWords u) × (pass pages a e s ≡ at-page u y) × Holds u y → pages x ≡ absent
+      go unfound k (u, n, h, o) = all-absent pages a e y b (h ∙ ap (λ (q : Progress). at-page q y) (first-word u v n z)) x i j
+      go (running q c d) k (u, n, h, o) = absurd (let m : at-page (running q c d) _ ≡ at-page unfound y = h ∙ ap (λ (q : Progress). at-page q y) (first-word u v n z) in let f : _≡_ {A = ℕ} 0 1 = cc in omega arith)
+      go (stopped q m d) k (u, n, h, o) = absurd (goes w a g (stopped q m d) k)
+
+  pub now-empty : (y : ℕ) (v : List ℕ) → a % spanPages l ≡ 0 → Passes pages a (after l a) w v y → getD v 0 0 ≡ 0 → HoldsNothing (entryBy mask) memory l t
+  unfolding after
+  now-empty y v e p z =
+      let b : after l a ≡ a + spanPages l = omega (arith, add-mul (a / spanPages l) 1 (spanPages l), div-add-mod' a (spanPages l)) in
+      holds-nothing (entryBy mask) memory l t r a e (λ x i j. found-nothing (after l a) y v (omega arith) p z x i (omega arith))
