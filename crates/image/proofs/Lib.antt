@@ -2,3 +2,4 @@ pub mod FoundWords
 pub mod Founds
 pub mod ListKept
 pub mod ListWords
+pub mod AllPages

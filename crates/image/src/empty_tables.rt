@@ -1,9 +1,11 @@
 // Tables that hold nothing, remembered in lent bytes: a byte for each 512 words, in it a bit for each level.
+use crate::found::END;
 use paging::TABLE_WORDS;
+use paging::within_span;
 ghost use mathlib.Core.Path.{_≡_};
 ghost use Prim.Native.Nat.{_<_};
 ghost use lib.ListN.{length, replicate};
-ghost use Rattle.paging.specs.EmptyTables.{hasByte, marked, marking};
+ghost use Rattle.paging.specs.EmptyTables.{hasByte, marked, marking, markingWhole};
 
 // Whether the table at a place has a byte: those of a list of segments lie at multiples of 512 words.
 fn has_byte(bytes: &[u8], place: usize) -> bool
@@ -28,7 +30,7 @@ pub(crate) fn is_empty(bytes: &[u8], place: usize, below: u64) -> bool
 }
 
 // Remembers that it holds nothing.
-pub(crate) fn remember(bytes: &mut [u8], place: usize, below: u64)
+fn remember(bytes: &mut [u8], place: usize, below: u64)
     requires { ⌜ below < 8 ⌝ }
     ensures { λ _. ⌜ now (bytes .exit) ≡ marking (now (bytes .entry)) place below ⌝ }
 {
@@ -36,6 +38,18 @@ pub(crate) fn remember(bytes: &mut [u8], place: usize, below: u64)
     if has {
         let i = place / TABLE_WORDS;
         bytes[i] = (bytes[i] as u64 | (1 << below)) as u8;
+    }
+}
+
+// Remembers a table that was gone through from a page on, if that is all of it and nothing was found, which the kind says.
+pub(crate) fn remember_whole(bytes: &mut [u8], kind: u64, place: usize, below: u64, from: u64)
+    requires { ⌜ below < 5 ⌝ }
+    ensures { λ _. ⌜ now (bytes .exit) ≡ markingWhole (now (bytes .entry)) kind place below from ⌝ }
+{
+    if kind == END {
+        if within_span(from, below + 1) == 0 {
+            remember(bytes, place, below);
+        }
     }
 }
 

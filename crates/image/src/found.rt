@@ -1,10 +1,8 @@
 // The search for mapped runs, by the numbers of pages and frames.
+use crate::lowest::pass_root;
 use crate::span::span_end;
 use crate::span::span_pages;
-use crate::tables::pass_table;
 use addr::Width;
-use paging::ALL_RIGHTS;
-use paging::levels;
 use paging::page_count;
 ghost use mathlib.Core.Bool.{cond};
 ghost use mathlib.Core.Path.{_≡_};
@@ -88,17 +86,14 @@ pub(crate) fn find(
     ensures { λ r. ⌜ (r ≡ foundOf (search (pagesFrom reserved (segmentsIn (now (segments .entry))) (now (words .entry)) (levelsOf width) root) page)) × StaysTrue reserved (segmentsIn (now (segments .entry))) (now (words .entry)) (now (empty .entry)) (now (empty .exit)) ⌝ }
 {
     let mut progress = [0u64; PROGRESS_WORDS];
-    let level = levels(width);
-    let reached = pass_table(
+    let reached = pass_root(
         words,
         segments,
         empty,
         &mut progress,
         root,
-        level,
-        span_pages(level - 1),
+        width,
         page,
-        ALL_RIGHTS,
         reserved,
     );
     found_of(&progress, reached, page_count(width))

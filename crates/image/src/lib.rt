@@ -2,6 +2,7 @@
 mod empty_tables;
 mod found;
 mod list_searches;
+mod lowest;
 mod numbers;
 mod pages;
 mod progress;

@@ -1,6 +1,6 @@
 // The search over tables, each lower one by the same rule, one level down.
 use crate::empty_tables::is_empty;
-use crate::empty_tables::remember;
+use crate::empty_tables::remember_whole;
 use crate::found::END;
 use crate::found::OUTSIDE;
 use crate::found::RESERVED;
@@ -35,10 +35,11 @@ pub(crate) enum Step {
     Down(usize, u64),
 }
 
-// What the search does at the entry that a page is under, a word of a table of level below + 1.
+// What the search does at the entry that a page is under, a word of a table of level below + 1. The pages of a table that is known to hold nothing are passed at once.
 fn step_at(
     lent: u64,
     segments: &[u64],
+    empty: &[u8],
     progress: &mut [u64],
     word: u64,
     below: u64,
@@ -47,7 +48,7 @@ fn step_at(
     reserved: u64,
 ) -> Step
     requires { ⌜ GoesOn (now progress) page × (1 ≤ below) × (below ≤ 4) × (page < 2 ^ 45) × (total (segmentsIn (now segments)) ≡ lent) ⌝ }
-    ensures { λ r. ⌜ Steps (segmentsIn (now (segments .entry))) reserved word below page rights (now (progress .entry)) (now (progress .exit)) r ⌝ }
+    ensures { λ r. ⌜ Steps (segmentsIn (now (segments .entry))) reserved word below page rights (now (empty .entry)) (now (progress .entry)) (now (progress .exit)) r ⌝ }
 {
     let look = look_word(word, below - 1, reserved);
     match look {
@@ -76,7 +77,15 @@ fn step_at(
                     stop(progress, OUTSIDE, page, below + 1);
                     Step::Halt
                 }
-                Place::At(lower) => Step::Down(lower, rights & allows(word)),
+                Place::At(lower) => {
+                    if progress[0] == END {
+                        let known = is_empty(empty, lower, below - 1);
+                        if known {
+                            return Step::Pass;
+                        }
+                    }
+                    Step::Down(lower, rights & allows(word))
+                }
             }
         }
     }
@@ -91,7 +100,7 @@ fn table_at(words: &[u64], place: usize) -> &[u64]
 }
 
 // Goes over the pages of the table of level 1 at a place, from one on.
-fn pass_lowest(
+pub(crate) fn pass_lowest(
     words: &[u64],
     empty: &mut [u8],
     progress: &mut [u64],
@@ -103,24 +112,14 @@ fn pass_lowest(
     requires { ⌜ GoesOn (now progress) from × (place + 512 ≤ length (now words)) × (from < 2 ^ 45) ⌝ }
     ensures { λ r. ⌜ (length (now (empty .exit)) ≡ length (now (empty .entry))) × SearchedLowest reserved (now (words .entry)) place rights from (now (progress .entry)) (now (progress .exit)) (now (empty .entry)) (now (empty .exit)) r ⌝ }
 {
-    if progress[0] == END {
-        let known = is_empty(&empty[0..empty.len()], place, 0);
-        if known {
-            return span_end(from, 1, TABLE_WORDS as u64);
-        }
-    }
     let table = table_at(words, place);
     let reached = pass_pages(table, progress, from, rights, reserved);
-    if progress[0] == END {
-        if from as usize % TABLE_WORDS == 0 {
-            remember(empty, place, 0);
-        }
-    }
+    remember_whole(empty, progress[0], place, 0, from);
     reached
 }
 
-// Goes over the pages of the table of the level at a place, from one on, and answers the page that it comes to. A table that is known to hold nothing is passed at once; one
-// that is gone through whole and holds nothing is known from then on.
+// Goes over the pages of the table of the level at a place, from one on, and answers the page that it comes to. One that is gone through whole and holds nothing is known
+// from then on.
 pub(crate) fn pass_table(
     words: &[u64],
     segments: &[u64],
@@ -138,12 +137,6 @@ pub(crate) fn pass_table(
 {
     let below = level - 1;
     let end = span_end(from, level, pages * TABLE_WORDS as u64);
-    if progress[0] == END {
-        let known = is_empty(&empty[0..empty.len()], place, below);
-        if known {
-            return end;
-        }
-    }
     let mut at = from;
     while at < end {
         let next = span_end(at, below, pages);
@@ -151,6 +144,7 @@ pub(crate) fn pass_table(
         let step = step_at(
             words.len() as u64,
             segments,
+            &empty[0..empty.len()],
             progress,
             word,
             below,
@@ -193,10 +187,6 @@ pub(crate) fn pass_table(
         }
         at = next;
     }
-    if progress[0] == END {
-        if within_span(from, level) == 0 {
-            remember(empty, place, below);
-        }
-    }
+    remember_whole(empty, progress[0], place, below, from);
     end
 }

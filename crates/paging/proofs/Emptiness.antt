@@ -1,29 +1,31 @@
--- What is known of tables that hold nothing: such a table is passed at once, and a table that was gone through whole with nothing found is one.
+-- What is known of tables that hold nothing: one that was gone through whole with nothing found is such a table.
 use Prim.Native.Nat.{ℕ, _+_, _/_, _%_, _≤_, _<_}
 use mathlib.Core.Path.{_≡_, refl, ap, _∙_}
+use mathlib.Core.Bool.{Bool, true, false, cond, _&&_}
 use mathlib.Core.List.{List}
 use mathlib.Core.Option.{Option}
 use native.Mathlib.Omega.{arith}
 use native.Mathlib.Nat.{div-add-mod', add-mul}
-use lib.ListN.{getD}
+use borrow.Author.Tests.{eqb-true}
+use lib.Dec.{eqb}
+use lib.ListN.{length, getD}
 use Rattle.mapping.specs.Pages.{Rights, reserved, outside, PageState, absent}
 use Rattle.mapping.specs.Pass.{Progress, unfound, stopped, running, at-page, pass}
 use Rattle.mapping.specs.Walk.{HoldsNothing, spanPages}
 use Rattle.mapping.proofs.Pass.{all-absent}
 use Rattle.mapping.proofs.Walk.{holds-nothing}
+use Rattle.paging.specs.EmptyTables.{TrueOf, marking, markingWhole}
 use Rattle.paging.specs.Entry.{entryBy}
+use Rattle.paging.specs.Memory.{tableFrom}
 use Rattle.paging.specs.Pages.{pagesBy}
 use Rattle.paging.specs.Progress.{progressWords, Holds, GoesOn, Passes}
 use Rattle.paging.specs.Span.{after}
-use Rattle.paging.proofs.Passing.{goes, passes-absent}
-use Rattle.paging.proofs.Spanning.{ahead-of}
+use Rattle.paging.proofs.Passing.{goes}
+use Rattle.paging.proofs.Remembering.{marking-true, marking-length}
 
 module _ (mask : ℕ) (memory : ℕ → Option (List ℕ)) (l : ℕ) (t : List ℕ) (r : Rights) (a : ℕ) (w : List ℕ) (g : GoesOn w a) where
   abbrev pages : ℕ → PageState
   pages = pagesBy mask memory l t r
-
-  pub passes-empty : HoldsNothing (entryBy mask) memory l t → getD w 0 0 ≡ 0 → Passes pages a (after l a) w w (after l a)
-  passes-empty h z = passes-absent pages a (after l a) w (ahead-of l a) g (λ x i j. h r x) z
 
   -- what the first word says of the words after
   first-word : (s : Progress) (v : List ℕ) → v ≡ progressWords s → getD v 0 0 ≡ 0 → s ≡ unfound
@@ -47,3 +49,23 @@ module _ (mask : ℕ) (memory : ℕ → Option (List ℕ)) (l : ℕ) (t : List �
   now-empty y v e p z =
       let b : after l a ≡ a + spanPages l = omega (arith, add-mul (a / spanPages l) 1 (spanPages l), div-add-mod' a (spanPages l)) in
       holds-nothing (entryBy mask) memory l t r a e (λ x i j. found-nothing (after l a) y v (omega arith) p z x i (omega arith))
+
+-- the bytes after a table of level n + 1 was gone through from page a on
+module _ (mask : ℕ) (memory : ℕ → Option (List ℕ)) (words : List ℕ) (p n : ℕ) (r : Rights) (a : ℕ) (w : List ℕ) (g : GoesOn w a) (bytes : List ℕ) (t : TrueOf (entryBy mask) memory words bytes) (inside : p + 512 ≤ length words) where
+  pub whole-true : (y : ℕ) (v : List ℕ) → Passes (pagesBy mask memory (n + 1) (tableFrom words p) r) a (after (n + 1) a) w v y
+      → TrueOf (entryBy mask) memory words (markingWhole bytes (getD v 0 0) p n a)
+  whole-true y v q = go (eqb (getD v 0 0) 0) refl (eqb (a % spanPages (n + 1)) 0) refl
+    where
+      go : (b : Bool) → eqb (getD v 0 0) 0 ≡ b → (c : Bool) → eqb (a % spanPages (n + 1)) 0 ≡ c → TrueOf (entryBy mask) memory words (cond (b && c) (marking bytes p n) bytes)
+      go true e true f =
+          marking-true (entryBy mask) memory words bytes t p n inside
+          (now-empty mask memory (n + 1) (tableFrom words p) r a w g y v (eqb-true (a % spanPages (n + 1)) 0 f) q (eqb-true (getD v 0 0) 0 e))
+      go true e false f = t
+      go false e c f = t
+
+pub whole-length : (bytes : List ℕ) (k p n x : ℕ) → length (markingWhole bytes k p n x) ≡ length bytes
+whole-length bytes k p n x = go (eqb k 0 && eqb (x % spanPages (n + 1)) 0)
+  where
+    go : (b : Bool) → length (cond b (marking bytes p n) bytes) ≡ length bytes
+    go true = marking-length bytes p n
+    go false = refl

@@ -69,17 +69,17 @@ outside-length x l w v (s, e, o) k = ap length (k s e .1 refl) ∙ words-length 
 
 -- in two parts that meet at m
 module _ (f : ℕ → PageState) (a x m : ℕ) (w v u : List ℕ) (i : a ≤ x) (j : x ≤ m) (p : Passes f a x w v x) where
-  both : (y : ℕ) → Passes f x m v u y → Passes f a m w u y
-  both y q s e =
+  pub passes-then : (y : ℕ) → Passes f x m v u y → Passes f a m w u y
+  passes-then y q s e =
       let (t, k, h, o) = p s e in
       let (r, n, l, z) = q t k in
       (r, n, pass-on f a x m i j s t x h (omega arith) ∙ l, z)
 
   pub passes-on : Passes f x m v u m → Passes f a m w u m
-  passes-on = both m
+  passes-on = passes-then m
 
   pub passes-in : (y e : ℕ) → m ≤ e → y < m → Passes f x m v u y → Passes f a e w u y
-  passes-in y e b l q s z = let (r, n, k, o) = both y q s z in (r, n, pass-inside f a m e (omega arith) b s r y k l, o)
+  passes-in y e b l q s z = let (r, n, k, o) = passes-then y q s z in (r, n, pass-inside f a m e (omega arith) b s r y k l, o)
 
 -- only the pages gone over count
 pub passes-congr : (f g : ℕ → PageState) (a e : ℕ) (w v : List ℕ) (y : ℕ) → a ≤ e → ((x : ℕ) → a ≤ x → x < e → f x ≡ g x) → Passes g a e w v y → Passes f a e w v y

@@ -27,6 +27,15 @@ nested (suc (suc (suc zero))) p x h b = omega arith
 nested (suc (suc (suc (suc zero)))) p x h b = omega arith
 nested (suc (suc (suc (suc (suc n))))) p x h b = absurd (omega arith)
 
+-- a table of level 1 ends no later than one that it is under
+pub lowest-ends : (n x : ℕ) → 1 ≤ n → n ≤ 5 → after 1 x ≤ after n x
+lowest-ends zero x a b = absurd (omega arith)
+lowest-ends (suc zero) x a b = omega arith
+lowest-ends (suc (suc n)) x a b =
+    let e : suc n + 1 ≡ suc (suc n) = omega arith in
+    let i : after (suc n) x ≤ after (suc n + 1) x = nested (suc n) x x (omega arith) (ahead-of (suc n + 1) x) in
+    omega (arith, lowest-ends (suc n) x (omega arith) (omega arith), ap (λ (k : ℕ). after k x) e, i)
+
 pub after-top : (n x : ℕ) → n ≤ 5 → x < 2 ^ 45 → after n x ≤ 2 ^ 45
 unfolding after
 after-top zero x h b = omega arith

@@ -12,6 +12,7 @@ use lib.ListN as list
 use Rattle.mapping.specs.Walk.{Entry, HoldsNothing}
 use Rattle.paging.specs.Entry.{set, entryBy}
 use Rattle.paging.specs.Memory.{Segment, tableFrom, tableIn}
+use Rattle.paging.specs.Span.{within}
 
 -- bit `n` of byte `i` says that the 512 words from 512 × i on, as a table of level `n` + 1, hold nothing
 abbrev pub TrueOf : (entry : ℕ → ℕ → Entry) (memory : ℕ → Option (List ℕ)) → (words bytes : List ℕ) → Type 0
@@ -37,3 +38,7 @@ marked bytes p n = cond (hasByte bytes p) (set n (getD bytes (p / 512) 0)) (hasB
 -- the bytes with its bit `n` set
 abbrev pub marking : List ℕ → (p n : ℕ) → List ℕ
 marking bytes p n = cond (hasByte bytes p) (list.set bytes (p / 512) (bitOr (getD bytes (p / 512) 0) (2 ^ n))) bytes
+
+-- the same if it was gone through from page `x` on, that is all of it, and nothing was found: the kind is 0
+abbrev pub markingWhole : List ℕ → (kind p n x : ℕ) → List ℕ
+markingWhole bytes k p n x = cond (eqb k 0 && eqb (within (n + 1) x) 0) (marking bytes p n) bytes

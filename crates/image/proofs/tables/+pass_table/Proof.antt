@@ -1,7 +1,6 @@
 -- `pass_table` meets its contract.
 use Prim.Native.Nat.{ℕ, _+_, _-_, _*_, _/_, _%_, _^_, _≤_, _<_}
 use mathlib.Core.Path.{_≡_, refl, sym, ap, _∙_, subst}
-use mathlib.Core.Bool.{true}
 use mathlib.Core.List.{List}
 use mathlib.Core.Option.{Option}
 use native.Mathlib.Omega.{arith}
@@ -12,8 +11,8 @@ use lib.Dec.{lit<}
 use lib.ListN.{length, getD, take, drop}
 use lib.Pow.{pow-mono}
 use Rattle.mapping.specs.Pages.{PageState}
-use Rattle.mapping.specs.Walk.{HoldsNothing, spanPages, wordFor}
-use Rattle.paging.specs.EmptyTables.{TrueOf, marked}
+use Rattle.mapping.specs.Walk.{spanPages, wordFor}
+use Rattle.paging.specs.EmptyTables.{TrueOf}
 use Rattle.paging.specs.Entry.{entryBy}
 use Rattle.paging.specs.Memory.{segmentsIn, tableFrom, tableIn, total}
 use Rattle.paging.specs.Packed.{rightsOver}
@@ -23,21 +22,18 @@ use Rattle.paging.specs.Span.{after}
 use Rattle.image.specs.Tables.{Searched, SearchedLowest, Steps}
 use Rattle.image.specs.declared.tables.Step.{Step}
 use Rattle.image.specs.declared.tables.Step.the-variants as step
-use Rattle.paging.proofs.Emptiness.{passes-empty, now-empty}
+use Rattle.paging.proofs.Emptiness.{whole-true, whole-length}
 use Rattle.paging.proofs.FourWords.{going-length}
 use Rattle.paging.proofs.Passing.{passes-none, passes-on, passes-in, passes-congr, passes-length, passes-le, still-goes}
 use Rattle.paging.proofs.Places.{whole-part, table-word}
-use Rattle.paging.proofs.Remembering.{marked-true, marking-true, marking-length}
 use Rattle.paging.proofs.Spanning.{ahead-of, nested, after-top, wide, narrow}
 use borrow.Fn.Kinds.{In}
 use borrow.Fn.PlainCycle.{Measures, is, falls, and}
 use Rattle.image.proofs.tables.pass_table.Reads as pass-table
 use Rattle.image.proofs.tables.pass_table.Kinds as pass-table-kinds
 use Rattle.image.proofs.tables.+pass_table.Lts-pass_table as pass-table-lts
-use Rattle.image.proofs.empty_tables.is_empty.Reads as is-empty-reads
-use Rattle.image.proofs.empty_tables.remember.Reads as remember-reads
+use Rattle.image.proofs.empty_tables.remember_whole.Reads as remember-whole-reads
 use Rattle.image.proofs.span.span_end.Reads as span-end-reads
-use Rattle.paging.proofs.within_span.Reads as within-span-reads
 use Rattle.image.proofs.tables.pass_lowest.Reads as pass-lowest-reads
 use Rattle.image.proofs.tables.step_at.Reads as step-at-reads
 use Rattle.image.proofs.tables.+pass_table.{statement}
@@ -59,18 +55,14 @@ abbrev calls : ℕ → pass-table-lts.Claims
 calls t = (
   span-end-reads.Asked,
   span-end-reads.Learnt,
-  is-empty-reads.Asked,
-  is-empty-reads.Learnt,
   step-at-reads.Asked,
   step-at-reads.Learnt,
   pass-lowest-reads.Asked,
   pass-lowest-reads.Learnt,
   pass-table-below t,
   pass-table.Post,
-  within-span-reads.Asked,
-  within-span-reads.Learnt,
-  remember-reads.Asked,
-  remember-reads.Learnt,
+  remember-whole-reads.Asked,
+  remember-whole-reads.Learnt,
 )
 
 abbrev pass-table-Inv-loop : pass-table-lts.InvT-loop
@@ -100,54 +92,17 @@ pass-table-mul-span-end t c = let s = c .before .before .before .before in omega
 pass-table-span-end-requires : (t : ℕ) → pass-table-lts.Need-span-end-requires (calls t) (pass-table-at t) pass-table.Post pass-table-Inv-loop pass-table-μ-loop
 pass-table-span-end-requires t c κs = let s = c .before .before .before .before in (table-pages t s, s .pre .1 .3, s .pre .1 .5)
 
-pass-table-slice-read-if1 : (t : ℕ) → pass-table-lts.Need-slice-read-if1 (calls t) (pass-table-at t) pass-table.Post pass-table-Inv-loop pass-table-μ-loop
-pass-table-slice-read-if1 t c = let s = c .before .before .before .before .before .before in omega (arith, going-length (now (s .args .progress)) (s .args .from) (s .pre .1 .0))
-
-pass-table-sub-is-empty : (t : ℕ) → pass-table-lts.Need-sub-is-empty (calls t) (pass-table-at t) pass-table.Post pass-table-Inv-loop pass-table-μ-loop
-pass-table-sub-is-empty t c = search needs
-
-pass-table-part-is-empty-start : (t : ℕ) → pass-table-lts.Need-part-is-empty-start (calls t) (pass-table-at t) pass-table.Post pass-table-Inv-loop pass-table-μ-loop
-pass-table-part-is-empty-start t c = search needs
-
-pass-table-part-is-empty-end : (t : ℕ) → pass-table-lts.Need-part-is-empty-end (calls t) (pass-table-at t) pass-table.Post pass-table-Inv-loop pass-table-μ-loop
-pass-table-part-is-empty-end t c = search needs
-
-pass-table-is-empty-requires : (t : ℕ) → pass-table-lts.Need-is-empty-requires (calls t) (pass-table-at t) pass-table.Post pass-table-Inv-loop pass-table-μ-loop
-pass-table-is-empty-requires t c κs = let s = c .before .before .before .before .before .before .before .before .before in omega (arith, s .pre .1 .3)
-
-pass-table-same-length : (t : ℕ) → pass-table-lts.Need-same-length (calls t) (pass-table-at t) pass-table.Post pass-table-Inv-loop pass-table-μ-loop
-pass-table-same-length t c = search needs
-
-pass-table-returns : (t : ℕ) → pass-table-lts.Need-returns (calls t) (pass-table-at t) pass-table.Post pass-table-Inv-loop pass-table-μ-loop
-pass-table-returns t c =
-    let k = c .before in
-    let s = k .before .before .before .before .before .before .before .before .before .before in
-    let a = s .args in
-    let bytes = now (a .empty) in
-    let memory = tableIn (segmentsIn (now (a .segments))) (now (a .words)) in
-    let table = tableFrom (now (a .words)) (a .place) in
-    let up : a .level - 1 + 1 ≡ a .level = omega (arith, s .pre .1 .2) in
-    let m : marked bytes (a .place) (a .level - 1) ≡ true = subst (λ (l : List ℕ). marked l (a .place) (a .level - 1) ≡ true) (whole-part bytes) (sym (k .is-empty .ensures) ∙ c .if2 .taken) in
-    let nothing = subst (λ (l : ℕ). HoldsNothing (entryBy (a .reserved)) memory l table) up (marked-true (entryBy (a .reserved)) memory (now (a .words)) bytes (s .pre .1 .1) (a .place) (a .level - 1) m) in (
-      refl,
-      (
-        subst (λ (r : ℕ). Passes (pagesBy (a .reserved) memory (a .level) table (rightsOver (a .rights))) (a .from) (after (a .level) (a .from)) (now (a .progress)) (now (a .progress)) r) (sym (k .before .before .before .before .before .span-end .ensures))
-            (passes-empty (a .reserved) memory (a .level) table (rightsOver (a .rights)) (a .from) (now (a .progress)) (s .pre .1 .0) nothing (k .before .before .before .if1 .taken)),
-        s .pre .1 .1,
-      ),
-    )
-
 pass-table-loop-holds : (t : ℕ) → pass-table-lts.Need-loop-holds (calls t) (pass-table-at t) pass-table.Post pass-table-Inv-loop pass-table-μ-loop
 pass-table-loop-holds t c =
-    let s = c .before .before .before .before .before .before .before in
+    let s = c .before .before .before .before .before in
     let a = s .args in
     let f = pagesBy (a .reserved) (tableIn (segmentsIn (now (a .segments))) (now (a .words))) (a .level - 1 + 1) (tableFrom (now (a .words)) (a .place)) (rightsOver (a .rights)) in
-    (s .pre .1 .0, s .pre .1 .1, omega arith, omega (arith, c .before .before .span-end .ensures, ahead-of (a .level) (a .from)), refl, passes-none f (a .from) (now (a .progress)) (s .pre .1 .0))
+    (s .pre .1 .0, s .pre .1 .1, omega arith, omega (arith, c .span-end .ensures, ahead-of (a .level) (a .from)), refl, passes-none f (a .from) (now (a .progress)) (s .pre .1 .0))
 
 -- a turn of the loop, at a page
 module _ (t : ℕ) (k : pass-table-lts.At-loop (calls t) (pass-table-at t) pass-table.Post pass-table-Inv-loop pass-table-μ-loop) where
   abbrev given : pass-table-lts.Start (calls t) (pass-table-at t) pass-table.Post pass-table-Inv-loop pass-table-μ-loop
-  given = k .before .before .before .before .before .before .before .before
+  given = k .before .before .before .before .before .before
 
   abbrev n : ℕ
   n = given .args .level - 1
@@ -168,13 +123,13 @@ module _ (t : ℕ) (k : pass-table-lts.At-loop (calls t) (pass-table-at t) pass-
   first = now (given .args .progress)
 
   abbrev end : ℕ
-  end = k .before .before .before .span-end .result
+  end = k .before .span-end .result
 
   up : n + 1 ≡ given .args .level
   up = omega (arith, given .pre .1 .2)
 
   end-is : end ≡ after (n + 1) (given .args .from)
-  end-is = k .before .before .before .span-end .ensures ∙ ap (λ (l : ℕ). after l (given .args .from)) (sym up)
+  end-is = k .before .span-end .ensures ∙ ap (λ (l : ℕ). after l (given .args .from)) (sym up)
 
   end-top : end ≤ 2 ^ 45
   end-top = omega (arith, end-is, after-top (n + 1) (given .args .from) (omega (arith, given .pre .1 .3)) (given .pre .1 .5))
@@ -242,9 +197,18 @@ pass-table-mul-word-2 t c = search needs
 pass-table-shared-slice-read-word : (t : ℕ) → pass-table-lts.Need-shared-slice-read-word (calls t) (pass-table-at t) pass-table.Post pass-table-Inv-loop pass-table-μ-loop
 pass-table-shared-slice-read-word t c = omega (arith, given t (turn t (c .before)) .pre .1 .6 .0, index-lt t (c .before))
 
+pass-table-sub-step-at : (t : ℕ) → pass-table-lts.Need-sub-step-at (calls t) (pass-table-at t) pass-table.Post pass-table-Inv-loop pass-table-μ-loop
+pass-table-sub-step-at t c = search needs
+
+pass-table-part-step-at-start : (t : ℕ) → pass-table-lts.Need-part-step-at-start (calls t) (pass-table-at t) pass-table.Post pass-table-Inv-loop pass-table-μ-loop
+pass-table-part-step-at-start t c = search needs
+
+pass-table-part-step-at-end : (t : ℕ) → pass-table-lts.Need-part-step-at-end (calls t) (pass-table-at t) pass-table.Post pass-table-Inv-loop pass-table-μ-loop
+pass-table-part-step-at-end t c = search needs
+
 pass-table-step-at-requires : (t : ℕ) → pass-table-lts.Need-step-at-requires (calls t) (pass-table-at t) pass-table.Post pass-table-Inv-loop pass-table-μ-loop
 pass-table-step-at-requires t c κs =
-    let e = c .before .before in
+    let e = c .before .before .before .before in
     let k = turn t e in
     let s = given t k in
     (k .loop .inv .0, omega (arith, s .pre .1 .2), omega (arith, s .pre .1 .3), omega (arith, e .before .loop-test .taken, end-top t k), s .pre .1 .6 .1)
@@ -255,17 +219,21 @@ pass-table-enum-told t c = search needs
 -- what the search does at it
 module _ (t : ℕ) (c : pass-table-lts.After-step-at (calls t) (pass-table-at t) pass-table.Post pass-table-Inv-loop pass-table-μ-loop) where
   abbrev entry : pass-table-lts.After-span-end2 (calls t) (pass-table-at t) pass-table.Post pass-table-Inv-loop pass-table-μ-loop
-  entry = c .before .before .before
+  entry = c .before .before .before .before .before
 
   abbrev loop : pass-table-lts.At-loop (calls t) (pass-table-at t) pass-table.Post pass-table-Inv-loop pass-table-μ-loop
   loop = turn t entry
 
   abbrev now-words : List ℕ
-  now-words = c .step-at .last .1 .1 .0
+  now-words = c .step-at .last .1 .1 .1 .0
+
+  -- the bytes, lent whole
+  abbrev bytes : List ℕ
+  bytes = take (length (loop .loop .empty) - 0) (drop 0 (loop .loop .empty))
 
   steps : (s : Step) → c .step-at .result ≡ s
-      → Steps (segmentsIn (now (given t loop .args .segments))) (given t loop .args .reserved) (getD (words t loop) (given t loop .args .place + index t entry) 0) (n t loop) (here t entry) (given t loop .args .rights) (loop .loop .progress) now-words s
-  steps s e = subst (λ (r : Step). Steps (segmentsIn (now (given t loop .args .segments))) (given t loop .args .reserved) (getD (words t loop) (given t loop .args .place + index t entry) 0) (n t loop) (here t entry) (given t loop .args .rights) (loop .loop .progress) now-words r) e (c .step-at .ensures)
+      → Steps (segmentsIn (now (given t loop .args .segments))) (given t loop .args .reserved) (getD (words t loop) (given t loop .args .place + index t entry) 0) (n t loop) (here t entry) (given t loop .args .rights) bytes (loop .loop .progress) now-words s
+  steps s e = subst (λ (r : Step). Steps (segmentsIn (now (given t loop .args .segments))) (given t loop .args .reserved) (getD (words t loop) (given t loop .args .place + index t entry) 0) (n t loop) (here t entry) (given t loop .args .rights) bytes (loop .loop .progress) now-words r) e (c .step-at .ensures)
 
   -- it comes to a page in the entry's span, or to its end
   within : (u : List ℕ) (y : ℕ) → y < next t entry → Passes (pages t loop) (here t entry) (next t entry) (loop .loop .progress) u y
@@ -295,14 +263,14 @@ module _ (t : ℕ) (c : pass-table-lts.After-step-at (calls t) (pass-table-at t)
       words-now : List ℕ
       words-now = words t loop
 
+pass-table-same-length : (t : ℕ) → pass-table-lts.Need-same-length (calls t) (pass-table-at t) pass-table.Post pass-table-Inv-loop pass-table-μ-loop
+pass-table-same-length t c = loop t (c .before .before .before .before) .loop .inv .4
+
 pass-table-same-length-2 : (t : ℕ) → pass-table-lts.Need-same-length-2 (calls t) (pass-table-at t) pass-table.Post pass-table-Inv-loop pass-table-μ-loop
-pass-table-same-length-2 t c = loop t (c .before .before .before .before) .loop .inv .4
+pass-table-same-length-2 t c = let s = c .before .before .before .before in as-long t (loop t s) (end t (loop t s)) (here t (entry t s)) (now-words t s) (halted t s (c .enum-told .given .1))
 
-pass-table-same-length-3 : (t : ℕ) → pass-table-lts.Need-same-length-3 (calls t) (pass-table-at t) pass-table.Post pass-table-Inv-loop pass-table-μ-loop
-pass-table-same-length-3 t c = let s = c .before .before .before .before in as-long t (loop t s) (end t (loop t s)) (here t (entry t s)) (now-words t s) (halted t s (c .enum-told .given .1))
-
-pass-table-returns-2 : (t : ℕ) → pass-table-lts.Need-returns-2 (calls t) (pass-table-at t) pass-table.Post pass-table-Inv-loop pass-table-μ-loop
-pass-table-returns-2 t c = let s = c .before .before .before .before in (loop t s .loop .inv .4, (to-level t (loop t s) (now-words t s) (here t (entry t s)) (halted t s (c .enum-told .given .1)), loop t s .loop .inv .1))
+pass-table-returns : (t : ℕ) → pass-table-lts.Need-returns (calls t) (pass-table-at t) pass-table.Post pass-table-Inv-loop pass-table-μ-loop
+pass-table-returns t c = let s = c .before .before .before .before in (loop t s .loop .inv .4, (to-level t (loop t s) (now-words t s) (here t (entry t s)) (halted t s (c .enum-told .given .1)), loop t s .loop .inv .1))
 
 pass-table-enum-told-2 : (t : ℕ) → pass-table-lts.Need-enum-told-2 (calls t) (pass-table-at t) pass-table.Post pass-table-Inv-loop pass-table-μ-loop
 pass-table-enum-told-2 t c = search needs
@@ -336,7 +304,7 @@ module _ (t : ℕ) (c : pass-table-lts.After-image (calls t) (pass-table-at t) p
   abbrev at-page : ℕ
   at-page = here t (entry t stepped)
 
-  down : Steps (segmentsIn (now (given t below .args .segments))) (given t below .args .reserved) (getD (words t below) (given t below .args .place + index t (entry t stepped)) 0) (n t below) at-page (given t below .args .rights) (below .loop .progress) (now-words t stepped) (step.Down lower above)
+  down : Steps (segmentsIn (now (given t below .args .segments))) (given t below .args .reserved) (getD (words t below) (given t below .args .place + index t (entry t stepped)) 0) (n t below) at-page (given t below .args .rights) (bytes t stepped) (below .loop .progress) (now-words t stepped) (step.Down lower above)
   down = steps t stepped (step.Down lower above) (c .before .before .step .given .1)
 
   going : GoesOn (now-words t stepped) at-page
@@ -389,7 +357,7 @@ module _ (t : ℕ) (c : pass-table-lts.After-pass-lowest (calls t) (pass-table-a
   searched =
       let k = below t going-in in
       let a = given t k .args in
-      let one : 1 ≡ n t k = sym (c .before .before .before .if3 .taken) in
+      let one : 1 ≡ n t k = sym (c .before .before .before .if1 .taken) in
       let all = subst (λ (w : List ℕ). SearchedLowest (a .reserved) w (lower t going-in) (above t going-in) (at-page t going-in) (now-words t (stepped t going-in)) words-1 (k .loop .empty) bytes-1 (c .pass-lowest .result)) (whole-part (words t k)) (c .pass-lowest .ensures .1) in
       let (p, h) = all (memory t k) (k .loop .inv .1) in (
         here-too t going-in words-1 (c .pass-lowest .result)
@@ -397,17 +365,17 @@ module _ (t : ℕ) (c : pass-table-lts.After-pass-lowest (calls t) (pass-table-a
         h,
       )
 
+pass-table-same-length-3 : (t : ℕ) → pass-table-lts.Need-same-length-3 (calls t) (pass-table-at t) pass-table.Post pass-table-Inv-loop pass-table-μ-loop
+pass-table-same-length-3 t c = long-1 t (c .before .before .before .before .before)
+
 pass-table-same-length-4 : (t : ℕ) → pass-table-lts.Need-same-length-4 (calls t) (pass-table-at t) pass-table.Post pass-table-Inv-loop pass-table-μ-loop
-pass-table-same-length-4 t c = long-1 t (c .before .before .before .before .before)
+pass-table-same-length-4 t c = let s = c .before .before .before .before .before in let k = below t (going-in t s) in as-long t k (end t k) (s .pass-lowest .result) (words-1 t s) (within t (stepped t (going-in t s)) (words-1 t s) (s .pass-lowest .result) (c .if2 .taken) (searched t s .0))
 
-pass-table-same-length-5 : (t : ℕ) → pass-table-lts.Need-same-length-5 (calls t) (pass-table-at t) pass-table.Post pass-table-Inv-loop pass-table-μ-loop
-pass-table-same-length-5 t c = let s = c .before .before .before .before .before in let k = below t (going-in t s) in as-long t k (end t k) (s .pass-lowest .result) (words-1 t s) (within t (stepped t (going-in t s)) (words-1 t s) (s .pass-lowest .result) (c .if4 .taken) (searched t s .0))
-
-pass-table-returns-3 : (t : ℕ) → pass-table-lts.Need-returns-3 (calls t) (pass-table-at t) pass-table.Post pass-table-Inv-loop pass-table-μ-loop
-pass-table-returns-3 t c =
+pass-table-returns-2 : (t : ℕ) → pass-table-lts.Need-returns-2 (calls t) (pass-table-at t) pass-table.Post pass-table-Inv-loop pass-table-μ-loop
+pass-table-returns-2 t c =
     let s = c .before .before .before .before .before in
     let k = below t (going-in t s) in
-    (long-1 t s, (to-level t k (words-1 t s) (s .pass-lowest .result) (within t (stepped t (going-in t s)) (words-1 t s) (s .pass-lowest .result) (c .if4 .taken) (searched t s .0)), searched t s .1))
+    (long-1 t s, (to-level t k (words-1 t s) (s .pass-lowest .result) (within t (stepped t (going-in t s)) (words-1 t s) (s .pass-lowest .result) (c .if2 .taken) (searched t s .0)), searched t s .1))
 
 pass-table-sub-parts : (t : ℕ) → pass-table-lts.Need-sub-parts (calls t) (pass-table-at t) pass-table.Post pass-table-Inv-loop pass-table-μ-loop
 pass-table-sub-parts t c = search needs
@@ -426,7 +394,7 @@ pass-table-pass-table-requires t c κs =
     let a = s .args in
     let w = sym (whole-part (words t k)) in
     let g = sym (whole-part (now (a .segments))) in
-    let two : 2 ≤ n t k = omega (arith, s .pre .1 .2, c .before .before .before .if3 .left) in
+    let two : 2 ≤ n t k = omega (arith, s .pre .1 .2, c .before .before .before .if1 .left) in
     let m : n t k - 1 + 1 ≡ n t k = omega arith in
     let span : a .pages / 2 ^ 9 ≡ spanPages (n t k - 1) = ap (λ (x : ℕ). x / 2 ^ 9) (s .pre .1 .4 ∙ ap spanPages (sym m)) ∙ narrow (n t k - 1) in (
       omega (arith, s .pre .0, s .pre .1 .2),
@@ -472,17 +440,17 @@ module _ (t : ℕ) (c : pass-table-lts.After-pass-table (calls t) (pass-table-at
       let (q, h) = subst (λ (l : List ℕ). Searched (a .reserved) (tableIn (segmentsIn (now (a .segments))) l) l (n t k) (lower t came-from) (above t came-from) (at-page t came-from) (now-words t (stepped t came-from)) words-2 bytes-2 (c .pass-table .result)) w segs in
       (here-too t came-from words-2 (c .pass-table .result) q, h)
 
+pass-table-same-length-5 : (t : ℕ) → pass-table-lts.Need-same-length-5 (calls t) (pass-table-at t) pass-table.Post pass-table-Inv-loop pass-table-μ-loop
+pass-table-same-length-5 t c = long-2 t (c .before .before .before .before .before)
+
 pass-table-same-length-6 : (t : ℕ) → pass-table-lts.Need-same-length-6 (calls t) (pass-table-at t) pass-table.Post pass-table-Inv-loop pass-table-μ-loop
-pass-table-same-length-6 t c = long-2 t (c .before .before .before .before .before)
+pass-table-same-length-6 t c = let s = c .before .before .before .before .before in let k = below t (came-from t s) in as-long t k (end t k) (s .pass-table .result) (words-2 t s) (within t (stepped t (came-from t s)) (words-2 t s) (s .pass-table .result) (c .if3 .taken) (searched-2 t s .0))
 
-pass-table-same-length-7 : (t : ℕ) → pass-table-lts.Need-same-length-7 (calls t) (pass-table-at t) pass-table.Post pass-table-Inv-loop pass-table-μ-loop
-pass-table-same-length-7 t c = let s = c .before .before .before .before .before in let k = below t (came-from t s) in as-long t k (end t k) (s .pass-table .result) (words-2 t s) (within t (stepped t (came-from t s)) (words-2 t s) (s .pass-table .result) (c .if5 .taken) (searched-2 t s .0))
-
-pass-table-returns-4 : (t : ℕ) → pass-table-lts.Need-returns-4 (calls t) (pass-table-at t) pass-table.Post pass-table-Inv-loop pass-table-μ-loop
-pass-table-returns-4 t c =
+pass-table-returns-3 : (t : ℕ) → pass-table-lts.Need-returns-3 (calls t) (pass-table-at t) pass-table.Post pass-table-Inv-loop pass-table-μ-loop
+pass-table-returns-3 t c =
     let s = c .before .before .before .before .before in
     let k = below t (came-from t s) in
-    (long-2 t s, (to-level t k (words-2 t s) (s .pass-table .result) (within t (stepped t (came-from t s)) (words-2 t s) (s .pass-table .result) (c .if5 .taken) (searched-2 t s .0)), searched-2 t s .1))
+    (long-2 t s, (to-level t k (words-2 t s) (s .pass-table .result) (within t (stepped t (came-from t s)) (words-2 t s) (s .pass-table .result) (c .if3 .taken) (searched-2 t s .0)), searched-2 t s .1))
 
 pass-table-loop-less : (t : ℕ) → pass-table-lts.Need-loop-less (calls t) (pass-table-at t) pass-table.Post pass-table-Inv-loop pass-table-μ-loop
 pass-table-loop-less t c = let e = entry t (c .before .before .before .before) in omega (arith, ahead t e, inside t e)
@@ -493,7 +461,7 @@ pass-table-loop-again t c =
     let k = loop t s in
     onward t s (now-words t s) (k .loop .empty) (k .loop .inv .1) (k .loop .inv .4)
     (to-next t s (now-words t s) (next t (entry t s)) (subst (λ (y : ℕ). Passes (pages t k) (here t (entry t s)) (after (n t k) (here t (entry t s))) (k .loop .progress) (now-words t s) y) (sym (next-is t (entry t s)))
-    (steps t s step.Pass (c .enum-told2 .given .1) (words t k) (table t k) (the-word t (entry t s)))))
+    (steps t s step.Pass (c .enum-told2 .given .1) (words t k) (table t k) (subst (λ (l : List ℕ). TrueOf (entryBy (given t k .args .reserved)) (memory t k) (words t k) l) (sym (whole-part (k .loop .empty))) (k .loop .inv .1)) (the-word t (entry t s)))))
 
 pass-table-loop-less-2 : (t : ℕ) → pass-table-lts.Need-loop-less-2 (calls t) (pass-table-at t) pass-table.Post pass-table-Inv-loop pass-table-μ-loop
 pass-table-loop-less-2 t c = let e = entry t (stepped t (going-in t (c .before .before .before .before .before))) in omega (arith, ahead t e, inside t e)
@@ -502,7 +470,7 @@ pass-table-loop-again-2 : (t : ℕ) → pass-table-lts.Need-loop-again-2 (calls 
 pass-table-loop-again-2 t c =
     let s = c .before .before .before .before .before in
     let i = going-in t s in
-    onward t (stepped t i) (words-1 t s) (bytes-1 t s) (searched t s .1) (long-1 t s) (at-end t i (words-1 t s) (s .pass-lowest .result) (omega (arith, c .if4 .left)) (searched t s .0))
+    onward t (stepped t i) (words-1 t s) (bytes-1 t s) (searched t s .1) (long-1 t s) (at-end t i (words-1 t s) (s .pass-lowest .result) (omega (arith, c .if2 .left)) (searched t s .0))
 
 pass-table-loop-less-3 : (t : ℕ) → pass-table-lts.Need-loop-less-3 (calls t) (pass-table-at t) pass-table.Post pass-table-Inv-loop pass-table-μ-loop
 pass-table-loop-less-3 t c = let e = entry t (stepped t (came-from t (c .before .before .before .before .before))) in omega (arith, ahead t e, inside t e)
@@ -511,7 +479,7 @@ pass-table-loop-again-3 : (t : ℕ) → pass-table-lts.Need-loop-again-3 (calls 
 pass-table-loop-again-3 t c =
     let s = c .before .before .before .before .before in
     let i = came-from t s in
-    onward t (stepped t i) (words-2 t s) (bytes-2 t s) (searched-2 t s .1) (long-2 t s) (at-end t i (words-2 t s) (s .pass-table .result) (omega (arith, c .if5 .left)) (searched-2 t s .0))
+    onward t (stepped t i) (words-2 t s) (bytes-2 t s) (searched-2 t s .1) (long-2 t s) (at-end t i (words-2 t s) (s .pass-table .result) (omega (arith, c .if3 .left)) (searched-2 t s .0))
 
 -- all pages are passed
 module _ (t : ℕ) (c : pass-table-lts.After-loop (calls t) (pass-table-at t) pass-table.Post pass-table-Inv-loop pass-table-μ-loop) where
@@ -532,55 +500,42 @@ module _ (t : ℕ) (c : pass-table-lts.After-loop (calls t) (pass-table-at t) pa
   done : Passes (pagesBy (given t last .args .reserved) (memory t last) (given t last .args .level) (table t last) (rightsOver (given t last .args .rights))) (given t last .args .from) (after (given t last .args .level) (given t last .args .from)) (first t last) (last .loop .progress) (end t last)
   done = to-level t last (last .loop .progress) (end t last) all-passed
 
-pass-table-slice-read-if6 : (t : ℕ) → pass-table-lts.Need-slice-read-if6 (calls t) (pass-table-at t) pass-table.Post pass-table-Inv-loop pass-table-μ-loop
-pass-table-slice-read-if6 t c = omega (arith, four t (c .before))
+pass-table-slice-read-remember-whole : (t : ℕ) → pass-table-lts.Need-slice-read-remember-whole (calls t) (pass-table-at t) pass-table.Post pass-table-Inv-loop pass-table-μ-loop
+pass-table-slice-read-remember-whole t c = omega (arith, four t (c .before .before))
 
-pass-table-within-span-requires : (t : ℕ) → pass-table-lts.Need-within-span-requires (calls t) (pass-table-at t) pass-table.Post pass-table-Inv-loop pass-table-μ-loop
-pass-table-within-span-requires t c κs = search needs
+pass-table-remember-whole-requires : (t : ℕ) → pass-table-lts.Need-remember-whole-requires (calls t) (pass-table-at t) pass-table.Post pass-table-Inv-loop pass-table-μ-loop
+pass-table-remember-whole-requires t c κs = let s = given t (last t (c .before .before)) in omega (arith, s .pre .1 .3)
 
-pass-table-remember-requires : (t : ℕ) → pass-table-lts.Need-remember-requires (calls t) (pass-table-at t) pass-table.Post pass-table-Inv-loop pass-table-μ-loop
-pass-table-remember-requires t c κs = let s = given t (last t (c .before .before .before .before .before)) in omega (arith, s .pre .1 .3)
+-- what is remembered then
+module _ (t : ℕ) (c : pass-table-lts.After-remember-whole (calls t) (pass-table-at t) pass-table.Post pass-table-Inv-loop pass-table-μ-loop) where
+  abbrev over : pass-table-lts.After-loop (calls t) (pass-table-at t) pass-table.Post pass-table-Inv-loop pass-table-μ-loop
+  over = c .before .before .before
+
+  as-many : length (c .remember-whole .last .0) ≡ length (now (given t (last t over) .args .empty))
+  as-many =
+      let k = last t over in
+      ap (λ (l : List ℕ). length l) (c .remember-whole .ensures) ∙ whole-length (k .loop .empty) (getD (k .loop .progress) 0 0) (given t k .args .place) (n t k) (given t k .args .from) ∙ k .loop .inv .4
+
+pass-table-same-length-7 : (t : ℕ) → pass-table-lts.Need-same-length-7 (calls t) (pass-table-at t) pass-table.Post pass-table-Inv-loop pass-table-μ-loop
+pass-table-same-length-7 t c = as-many t (c .before .before)
 
 pass-table-same-length-8 : (t : ℕ) → pass-table-lts.Need-same-length-8 (calls t) (pass-table-at t) pass-table.Post pass-table-Inv-loop pass-table-μ-loop
-pass-table-same-length-8 t c = let k = last t (c .before .before .before .before .before .before .before .before) in ap (λ (l : List ℕ). length l) (c .before .before .remember .ensures) ∙ marking-length (k .loop .empty) (given t k .args .place) (n t k) ∙ k .loop .inv .4
+pass-table-same-length-8 t c = same-words t (over t (c .before .before))
 
-pass-table-same-length-9 : (t : ℕ) → pass-table-lts.Need-same-length-9 (calls t) (pass-table-at t) pass-table.Post pass-table-Inv-loop pass-table-μ-loop
-pass-table-same-length-9 t c = same-words t (c .before .before .before .before .before .before .before .before)
-
-pass-table-returns-5 : (t : ℕ) → pass-table-lts.Need-returns-5 (calls t) (pass-table-at t) pass-table.Post pass-table-Inv-loop pass-table-μ-loop
-pass-table-returns-5 t c =
+pass-table-returns-4 : (t : ℕ) → pass-table-lts.Need-returns-4 (calls t) (pass-table-at t) pass-table.Post pass-table-Inv-loop pass-table-μ-loop
+pass-table-returns-4 t c =
     let r = c .before .before in
-    let l = c .before .before .before .before .before .before .before .before in
+    let l = over t r in
     let k = last t l in
-    let a = given t k .args in
-    let whole : a .from % spanPages (n t k + 1) ≡ 0 = ap (λ (x : ℕ). a .from % spanPages x) (up t k) ∙ sym (r .before .before .before .within-span .ensures) ∙ r .before .before .if7 .taken in
-    let all = subst (λ (e : ℕ). Passes (pages t k) (a .from) e (first t k) (k .loop .progress) (end t k)) (end-is t k) (all-passed t l) in (
-      ap (λ (m : List ℕ). length m) (r .remember .ensures) ∙ marking-length (k .loop .empty) (a .place) (n t k) ∙ k .loop .inv .4,
+    let a = given t k .args in (
+      as-many t r,
       (
         done t l,
-        subst (λ (m : List ℕ). TrueOf (entryBy (a .reserved)) (memory t k) (words t k) m) (sym (r .remember .ensures))
-            (marking-true (entryBy (a .reserved)) (memory t k) (words t k) (k .loop .empty) (k .loop .inv .1) (a .place) (n t k) (given t k .pre .1 .6 .0)
-            (now-empty (a .reserved) (memory t k) (n t k + 1) (table t k) (rightsOver (a .rights)) (a .from) (first t k) (given t k .pre .1 .0) (end t k) (k .loop .progress) whole all (r .before .before .before .before .if6 .taken))),
+        subst (λ (m : List ℕ). TrueOf (entryBy (a .reserved)) (memory t k) (words t k) m) (sym (r .remember-whole .ensures))
+            (whole-true (a .reserved) (memory t k) (words t k) (a .place) (n t k) (rightsOver (a .rights)) (a .from) (first t k) (given t k .pre .1 .0) (k .loop .empty) (k .loop .inv .1) (given t k .pre .1 .6 .0) (end t k) (k .loop .progress)
+            (subst (λ (e : ℕ). Passes (pages t k) (a .from) e (first t k) (k .loop .progress) (end t k)) (end-is t k) (all-passed t l))),
       ),
     )
-
-pass-table-same-length-10 : (t : ℕ) → pass-table-lts.Need-same-length-10 (calls t) (pass-table-at t) pass-table.Post pass-table-Inv-loop pass-table-μ-loop
-pass-table-same-length-10 t c = last t (c .before .before .before .before) .loop .inv .4
-
-pass-table-same-length-11 : (t : ℕ) → pass-table-lts.Need-same-length-11 (calls t) (pass-table-at t) pass-table.Post pass-table-Inv-loop pass-table-μ-loop
-pass-table-same-length-11 t c = same-words t (c .before .before .before .before)
-
-pass-table-returns-6 : (t : ℕ) → pass-table-lts.Need-returns-6 (calls t) (pass-table-at t) pass-table.Post pass-table-Inv-loop pass-table-μ-loop
-pass-table-returns-6 t c = let l = c .before .before .before .before in (last t l .loop .inv .4, (done t l, last t l .loop .inv .1))
-
-pass-table-same-length-12 : (t : ℕ) → pass-table-lts.Need-same-length-12 (calls t) (pass-table-at t) pass-table.Post pass-table-Inv-loop pass-table-μ-loop
-pass-table-same-length-12 t c = last t (c .before .before) .loop .inv .4
-
-pass-table-same-length-13 : (t : ℕ) → pass-table-lts.Need-same-length-13 (calls t) (pass-table-at t) pass-table.Post pass-table-Inv-loop pass-table-μ-loop
-pass-table-same-length-13 t c = same-words t (c .before .before)
-
-pass-table-returns-7 : (t : ℕ) → pass-table-lts.Need-returns-7 (calls t) (pass-table-at t) pass-table.Post pass-table-Inv-loop pass-table-μ-loop
-pass-table-returns-7 t c = let l = c .before .before in (last t l .loop .inv .4, (done t l, last t l .loop .inv .1))
 
 pub +pass-table-spec : {M : Type 1} → statement M
 +pass-table-spec = close μ-pass-table λ t. pass-table-lts.spec (calls t)
@@ -591,13 +546,6 @@ pub +pass-table-spec : {M : Type 1} → statement M
     (pass-table-sub-below t)
     (pass-table-mul-span-end t)
     (pass-table-span-end-requires t)
-    (pass-table-slice-read-if1 t)
-    (pass-table-sub-is-empty t)
-    (pass-table-part-is-empty-start t)
-    (pass-table-part-is-empty-end t)
-    (pass-table-is-empty-requires t)
-    (pass-table-same-length t)
-    (pass-table-returns t)
     (pass-table-loop-holds t)
     (pass-table-span-end-requires-2 t)
     (pass-table-mul-word t)
@@ -605,42 +553,38 @@ pub +pass-table-spec : {M : Type 1} → statement M
     (pass-table-add-word t)
     (pass-table-mul-word-2 t)
     (pass-table-shared-slice-read-word t)
+    (pass-table-sub-step-at t)
+    (pass-table-part-step-at-start t)
+    (pass-table-part-step-at-end t)
     (pass-table-step-at-requires t)
     (pass-table-enum-told t)
+    (pass-table-same-length t)
     (pass-table-same-length-2 t)
-    (pass-table-same-length-3 t)
-    (pass-table-returns-2 t)
+    (pass-table-returns t)
     (pass-table-enum-told-2 t)
     (pass-table-enum-known-step t)
     (pass-table-sub-image t)
     (pass-table-part-image-start t)
     (pass-table-part-image-end t)
     (pass-table-pass-lowest-requires t)
+    (pass-table-same-length-3 t)
     (pass-table-same-length-4 t)
-    (pass-table-same-length-5 t)
-    (pass-table-returns-3 t)
+    (pass-table-returns-2 t)
     (pass-table-sub-parts t)
     (pass-table-part-parts-start t)
     (pass-table-part-parts-end t)
     (pass-table-pass-table-requires t)
+    (pass-table-same-length-5 t)
     (pass-table-same-length-6 t)
-    (pass-table-same-length-7 t)
-    (pass-table-returns-4 t)
+    (pass-table-returns-3 t)
     (pass-table-loop-less t)
     (pass-table-loop-again t)
     (pass-table-loop-less-2 t)
     (pass-table-loop-again-2 t)
     (pass-table-loop-less-3 t)
     (pass-table-loop-again-3 t)
-    (pass-table-slice-read-if6 t)
-    (pass-table-within-span-requires t)
-    (pass-table-remember-requires t)
+    (pass-table-slice-read-remember-whole t)
+    (pass-table-remember-whole-requires t)
+    (pass-table-same-length-7 t)
     (pass-table-same-length-8 t)
-    (pass-table-same-length-9 t)
-    (pass-table-returns-5 t)
-    (pass-table-same-length-10 t)
-    (pass-table-same-length-11 t)
-    (pass-table-returns-6 t)
-    (pass-table-same-length-12 t)
-    (pass-table-same-length-13 t)
-    (pass-table-returns-7 t)
+    (pass-table-returns-4 t)

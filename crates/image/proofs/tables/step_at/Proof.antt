@@ -8,10 +8,10 @@ use native.Mathlib.Omega.{arith}
 use native.Mathlib.Nat.{mod-lt}
 use borrow.Author.Needs.{needs}
 use denote.Ref.{now}
-use lib.Bits.{bitAnd}
+use lib.Bits.{bitAnd, bitXor}
 use lib.Pow.{pow-pos}
 use Rattle.mapping.specs.Pages.{Rights, PageState, mapped}
-use Rattle.mapping.specs.Walk.{joined, spanPages, wordFor}
+use Rattle.mapping.specs.Walk.{HoldsNothing, joined, spanPages, wordFor}
 use Rattle.paging.specs.Entry.{rightsOf, entryBy}
 use Rattle.paging.specs.Look.{seen}
 use Rattle.paging.specs.Memory.{segmentsIn, placeFrom, tableFrom, tableIn}
@@ -28,6 +28,7 @@ use Rattle.paging.proofs.FourWords.{going-length}
 use Rattle.paging.proofs.Looks.{Sound, sound-entry}
 use Rattle.paging.proofs.Passing.{takes-length, reserved-length, outside-length, passes-absent, ends-absent, stops-reserved, stops-outside, passes-mapped, ends-mapped}
 use Rattle.paging.proofs.Places.{place-inside, place-reached}
+use Rattle.paging.proofs.Remembering.{marked-true}
 use Rattle.paging.proofs.RightsBits.{rights-step}
 use Rattle.paging.proofs.Spanning.{ahead-of}
 use Rattle.paging.proofs.Upper.{under-absent, under-reserved, under-leaf, under-outside, under-table}
@@ -43,7 +44,7 @@ look-word-requires c κs = search needs
 -- what was asked, and what the look says
 module _ (c : tie.After-look-word) where
   abbrev given : tie.Start
-  given = c .before .before .before
+  given = c .before .before .before .before
 
   abbrev words : List ℕ
   words = now (given .args .progress)
@@ -66,7 +67,7 @@ slice-read-if1 : tie.Need-slice-read-if1
 slice-read-if1 c = let k = c .before .before .before in omega (arith, going-length (words k) (given k .args .page) (goes k))
 
 returns : tie.Need-returns
-returns c image t w =
+returns c image t e w =
     let k = c .before .before .before .before in
     let a = given k .args in
     passes-absent (pagesBy (a .reserved) (tableIn (segmentsIn (now (a .segments))) image) (a .below + 1) t (rightsOver (a .rights))) (a .page) (after (a .below) (a .page)) (words k)
@@ -172,7 +173,7 @@ same-length : tie.Need-same-length
 same-length c = let s = c .before .before .before in takes-length (asked s .args .page) (frame s) (held s) (words (looked (at-leaf s))) (s .take .last .0) true (goes (looked (at-leaf s))) (takes s true (c .if2 .taken))
 
 returns-2 : tie.Need-returns-2
-returns-2 c image t w = all-taken (c .before .before .before) image t w (c .if2 .taken)
+returns-2 c image t e w = all-taken (c .before .before .before) image t w (c .if2 .taken)
 
 enum-known-look-2 : tie.Need-enum-known-look-2
 enum-known-look-2 c = search needs
@@ -211,11 +212,38 @@ stop-requires-2 c κs = goes (c .before .before .before .before .before .before 
 enum-known-next : tie.Need-enum-known-next
 enum-known-next c = search needs
 
+slice-read-if3 : tie.Need-slice-read-if3
+slice-read-if3 c = let k = looked-up (c .before .before .before .before) in omega (arith, going-length (words k) (given k .args .page) (goes k))
+
+sub-is-empty : tie.Need-sub-is-empty
+sub-is-empty c = search needs
+
+is-empty-requires : tie.Need-is-empty-requires
+is-empty-requires c κs = search needs
+
+returns-3 : tie.Need-returns-3
+returns-3 c image t e w =
+    let f = c .before .before .before in
+    let p = f .before .before .before .before in
+    let k = looked-up p in
+    let a = given k .args in
+    let at = f .before .before .next .given .0 .0 in
+    let memory = tableIn (segmentsIn (now (a .segments))) image in
+    let m : placeFrom 0 (segmentsIn (now (a .segments))) (address p) ≡ some at = found-at p (place.At at) (f .before .before .next .given .1) in
+    let level : a .below - 1 + 1 ≡ a .below = omega (arith, given k .pre .1) in
+    let nothing : HoldsNothing (entryBy (a .reserved)) memory (a .below) (tableFrom image at) = subst (λ (l : ℕ). HoldsNothing (entryBy (a .reserved)) memory l (tableFrom image at)) level
+    (marked-true (entryBy (a .reserved)) memory image (now (a .empty)) e at (a .below - 1) (sym (c .before .is-empty .ensures) ∙ c .if4 .taken)) in
+    passes-absent (pagesBy (a .reserved) memory (a .below + 1) t (rightsOver (a .rights))) (a .page) (after (a .below) (a .page)) (words k) (ahead-of (a .below) (a .page)) (goes k)
+    (λ y i j.
+    under-table (a .reserved) (segmentsIn (now (a .segments))) image t (a .rights) (a .below) (a .page) (a .word) w (address p) (next p) (told k (look.Next (address p) (next p)) (seen-next p)) at m y i j
+    ∙ nothing (rightsOver (bitAnd (a .rights) (bitXor (next p) (2 ^ 63)))) y)
+    (c .before .before .if3 .taken)
+
 allows-requires-2 : tie.Need-allows-requires-2
 allows-requires-2 c κs = search needs
 
-returns-3 : tie.Need-returns-3
-returns-3 c image t w =
+returns-4 : tie.Need-returns-4
+returns-4 c image t w =
     let k = c .before .before .before .before in
     let a = given k .args in
     ends-absent (pagesBy (a .reserved) (tableIn (segmentsIn (now (a .segments))) image) (a .below + 1) t (rightsOver (a .rights))) (a .page) (after (a .below) (a .page)) (words k)
@@ -229,8 +257,8 @@ same-length-2 c =
     let k = s .before .before .before .before in
     reserved-length (given k .args .page) (given k .args .below + 1) (words k) (s .stop .last .0) (goes k) (s .stop .ensures)
 
-returns-4 : tie.Need-returns-4
-returns-4 c image t w =
+returns-5 : tie.Need-returns-5
+returns-5 c image t w =
     let s = c .before .before in
     let k = s .before .before .before .before in
     let a = given k .args in
@@ -242,8 +270,8 @@ returns-4 c image t w =
 same-length-3 : tie.Need-same-length-3
 same-length-3 c = let s = c .before .before .before in takes-length (asked s .args .page) (frame s) (held s) (words (looked (at-leaf s))) (s .take .last .0) false (goes (looked (at-leaf s))) (takes s false (c .if2 .left))
 
-returns-5 : tie.Need-returns-5
-returns-5 c image t w = not-taken (c .before .before .before) image t w (c .if2 .left)
+returns-6 : tie.Need-returns-6
+returns-6 c image t w = not-taken (c .before .before .before) image t w (c .if2 .left)
 
 same-length-4 : tie.Need-same-length-4
 same-length-4 c =
@@ -251,8 +279,8 @@ same-length-4 c =
     let k = looked-up (s .before .before .before .before) in
     outside-length (given k .args .page) (given k .args .below + 1) (words k) (s .stop2 .last .0) (goes k) (s .stop2 .ensures)
 
-returns-6 : tie.Need-returns-6
-returns-6 c image t w =
+returns-7 : tie.Need-returns-7
+returns-7 c image t w =
     let s = c .before .before in
     let p = s .before .before .before .before in
     let k = looked-up p in
@@ -263,13 +291,14 @@ returns-6 c image t w =
     (found-at p place.Outside (s .before .before .enum-told3 .given .1)))
     (s .stop2 .last .0) (s .stop2 .ensures)
 
-returns-7 : tie.Need-returns-7
-returns-7 c =
-    let p = c .before .before .before .before in
+returns-8 : tie.Need-returns-8
+returns-8 c =
+    let f = c .before .before in
+    let p = f .before .before .before .before in
     let k = looked-up p in
     let a = given k .args in
-    let at = c .before .before .next .given .0 .0 in
-    let m : placeFrom 0 (segmentsIn (now (a .segments))) (address p) ≡ some at = found-at p (place.At at) (c .before .before .next .given .1) in (
+    let at = f .before .before .next .given .0 .0 in
+    let m : placeFrom 0 (segmentsIn (now (a .segments))) (address p) ≡ some at = found-at p (place.At at) (f .before .before .next .given .1) in (
       refl,
       omega (arith, place-inside (segmentsIn (now (a .segments))) 0 (address p) at m),
       λ image t w y i j.
@@ -303,12 +332,16 @@ step-at-spec =
     add-stop-2
     stop-requires-2
     enum-known-next
-    allows-requires-2
+    slice-read-if3
+    sub-is-empty
+    is-empty-requires
     returns-3
-    same-length-2
+    allows-requires-2
     returns-4
-    same-length-3
+    same-length-2
     returns-5
-    same-length-4
+    same-length-3
     returns-6
-    returns-7)
+    same-length-4
+    returns-7
+    returns-8)
