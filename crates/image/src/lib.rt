@@ -1,5 +1,4 @@
 // The search for mapped runs by the tables in a memory image, and lists of searches. An image is lent words, never written; base is the physical address of its first word.
-mod empty_tables;
 mod found;
 mod list_searches;
 mod lowest;

@@ -1,5 +1,4 @@
 // A list of searches, into lent words.
-use crate::empty_tables::forget;
 use crate::found::Found;
 use crate::found::RUN;
 use crate::found::find;
@@ -8,6 +7,7 @@ use crate::numbers::numbered_page;
 use addr::PhysAddr;
 use addr::VirtAddr;
 use addr::Width;
+use empty_tables::forget;
 use page::Page;
 use paging::NO_MASK;
 use paging::Root;

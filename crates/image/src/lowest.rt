@@ -1,10 +1,10 @@
 // The table of level 1 that a page is under. A search begins there: most answers end in the table in which they begin, and need no way down table by table.
-use crate::empty_tables::is_empty;
 use crate::span::span_end;
 use crate::span::span_pages;
 use crate::tables::pass_lowest;
 use crate::tables::pass_table;
 use addr::Width;
+use empty_tables::is_empty;
 use paging::ALL_RIGHTS;
 use paging::Look;
 use paging::Place;

@@ -1,6 +1,4 @@
 // The search over tables, each lower one by the same rule, one level down.
-use crate::empty_tables::is_empty;
-use crate::empty_tables::remember_whole;
 use crate::found::END;
 use crate::found::OUTSIDE;
 use crate::found::RESERVED;
@@ -8,6 +6,8 @@ use crate::pages::pass_pages;
 use crate::progress::stop;
 use crate::progress::take;
 use crate::span::span_end;
+use empty_tables::is_empty;
+use empty_tables::remember_whole;
 use paging::Look;
 use paging::Place;
 use paging::TABLE_WORDS;
@@ -114,7 +114,7 @@ pub(crate) fn pass_lowest(
 {
     let table = table_at(words, place);
     let reached = pass_pages(table, progress, from, rights, reserved);
-    remember_whole(empty, progress[0], place, 0, from);
+    remember_whole(empty, progress[0] == END, place, 0, from);
     reached
 }
 
@@ -187,6 +187,6 @@ pub(crate) fn pass_table(
         }
         at = next;
     }
-    remember_whole(empty, progress[0], place, below, from);
+    remember_whole(empty, progress[0] == END, place, below, from);
     end
 }

@@ -53,7 +53,7 @@ module _ (mask : ℕ) (memory : ℕ → Option (List ℕ)) (l : ℕ) (t : List �
 -- the bytes after a table of level n + 1 was gone through from page a on
 module _ (mask : ℕ) (memory : ℕ → Option (List ℕ)) (words : List ℕ) (p n : ℕ) (r : Rights) (a : ℕ) (w : List ℕ) (g : GoesOn w a) (bytes : List ℕ) (t : TrueOf (entryBy mask) memory words bytes) (inside : p + 512 ≤ length words) where
   pub whole-true : (y : ℕ) (v : List ℕ) → Passes (pagesBy mask memory (n + 1) (tableFrom words p) r) a (after (n + 1) a) w v y
-      → TrueOf (entryBy mask) memory words (markingWhole bytes (getD v 0 0) p n a)
+      → TrueOf (entryBy mask) memory words (markingWhole bytes (eqb (getD v 0 0) 0) p n a)
   whole-true y v q = go (eqb (getD v 0 0) 0) refl (eqb (a % spanPages (n + 1)) 0) refl
     where
       go : (b : Bool) → eqb (getD v 0 0) 0 ≡ b → (c : Bool) → eqb (a % spanPages (n + 1)) 0 ≡ c → TrueOf (entryBy mask) memory words (cond (b && c) (marking bytes p n) bytes)
@@ -63,8 +63,8 @@ module _ (mask : ℕ) (memory : ℕ → Option (List ℕ)) (words : List ℕ) (p
       go true e false f = t
       go false e c f = t
 
-pub whole-length : (bytes : List ℕ) (k p n x : ℕ) → length (markingWhole bytes k p n x) ≡ length bytes
-whole-length bytes k p n x = go (eqb k 0 && eqb (x % spanPages (n + 1)) 0)
+pub whole-length : (bytes : List ℕ) (nothing : Bool) (p n x : ℕ) → length (markingWhole bytes nothing p n x) ≡ length bytes
+whole-length bytes nothing p n x = go (nothing && eqb (x % spanPages (n + 1)) 0)
   where
     go : (b : Bool) → length (cond b (marking bytes p n) bytes) ≡ length bytes
     go true = marking-length bytes p n

@@ -7,7 +7,7 @@ use native.Mathlib.Omega.{arith}
 use native.Mathlib.Nat.{mod-lt}
 use borrow.Author.Needs.{needs}
 use denote.Ref.{now}
-use lib.Dec.{lit<}
+use lib.Dec.{lit<, eqb}
 use lib.ListN.{length, getD, take, drop}
 use lib.Pow.{pow-mono}
 use Rattle.mapping.specs.Pages.{PageState}
@@ -32,7 +32,7 @@ use borrow.Fn.PlainCycle.{Measures, is, falls, and}
 use Rattle.image.proofs.tables.pass_table.Reads as pass-table
 use Rattle.image.proofs.tables.pass_table.Kinds as pass-table-kinds
 use Rattle.image.proofs.tables.+pass_table.Lts-pass_table as pass-table-lts
-use Rattle.image.proofs.empty_tables.remember_whole.Reads as remember-whole-reads
+use Rattle.empty_tables.proofs.remember_whole.Reads as remember-whole-reads
 use Rattle.image.proofs.span.span_end.Reads as span-end-reads
 use Rattle.image.proofs.tables.pass_lowest.Reads as pass-lowest-reads
 use Rattle.image.proofs.tables.step_at.Reads as step-at-reads
@@ -504,7 +504,7 @@ pass-table-slice-read-remember-whole : (t : ℕ) → pass-table-lts.Need-slice-r
 pass-table-slice-read-remember-whole t c = omega (arith, four t (c .before .before))
 
 pass-table-remember-whole-requires : (t : ℕ) → pass-table-lts.Need-remember-whole-requires (calls t) (pass-table-at t) pass-table.Post pass-table-Inv-loop pass-table-μ-loop
-pass-table-remember-whole-requires t c κs = let s = given t (last t (c .before .before)) in omega (arith, s .pre .1 .3)
+pass-table-remember-whole-requires t c κs = search needs
 
 -- what is remembered then
 module _ (t : ℕ) (c : pass-table-lts.After-remember-whole (calls t) (pass-table-at t) pass-table.Post pass-table-Inv-loop pass-table-μ-loop) where
@@ -514,7 +514,7 @@ module _ (t : ℕ) (c : pass-table-lts.After-remember-whole (calls t) (pass-tabl
   as-many : length (c .remember-whole .last .0) ≡ length (now (given t (last t over) .args .empty))
   as-many =
       let k = last t over in
-      ap (λ (l : List ℕ). length l) (c .remember-whole .ensures) ∙ whole-length (k .loop .empty) (getD (k .loop .progress) 0 0) (given t k .args .place) (n t k) (given t k .args .from) ∙ k .loop .inv .4
+      ap (λ (l : List ℕ). length l) (c .remember-whole .ensures) ∙ whole-length (k .loop .empty) (eqb (getD (k .loop .progress) 0 0) 0) (given t k .args .place) (n t k) (given t k .args .from) ∙ k .loop .inv .4
 
 pass-table-same-length-7 : (t : ℕ) → pass-table-lts.Need-same-length-7 (calls t) (pass-table-at t) pass-table.Post pass-table-Inv-loop pass-table-μ-loop
 pass-table-same-length-7 t c = as-many t (c .before .before)

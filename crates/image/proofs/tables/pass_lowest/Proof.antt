@@ -6,6 +6,7 @@ use mathlib.Core.Option.{Option, none}
 use native.Mathlib.Omega.{arith}
 use borrow.Author.Needs.{needs}
 use denote.Ref.{now}
+use lib.Dec.{eqb}
 use lib.ListN.{length, getD}
 use Rattle.paging.specs.EmptyTables.{TrueOf}
 use Rattle.paging.specs.Entry.{entryBy}
@@ -62,7 +63,7 @@ module _ (c : tie.After-remember-whole) where
   gone-over = c .before .before .before .before .before
 
   as-many : length (c .remember-whole .last .0) ≡ length (now (given gone-over .args .empty))
-  as-many = let a = given gone-over .args in ap length (c .remember-whole .ensures) ∙ whole-length (now (a .empty)) (getD (gone-over .pass-pages .last .1 .0) 0 0) (a .place) 0 (a .from)
+  as-many = let a = given gone-over .args in ap length (c .remember-whole .ensures) ∙ whole-length (now (a .empty)) (eqb (getD (gone-over .pass-pages .last .1 .0) 0 0) 0) (a .place) 0 (a .from)
 
 same-length : tie.Need-same-length
 same-length c = as-many (c .before .before)

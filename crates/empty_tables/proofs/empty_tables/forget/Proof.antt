@@ -5,8 +5,8 @@ use mathlib.Core.Logic.{⊎-elim}
 use native.Mathlib.Omega.{arith}
 use lib.ListN.{length, length-set, take, replicate}
 use Rattle.paging.proofs.Remembering.{one-cleared, one-clear, all-cleared}
-use Rattle.image.proofs.empty_tables.forget.Statement.{statement}
-use Rattle.image.proofs.empty_tables.forget.Tie as tie
+use Rattle.empty_tables.proofs.empty_tables.forget.Statement.{statement}
+use Rattle.empty_tables.proofs.empty_tables.forget.Tie as tie
 
 abbrev Inv-loop : tie.InvT-loop
 Inv-loop bytes₀ i₀ i-end bytes i = (i ≤ i-end) × (i-end ≡ length bytes₀) × (length bytes ≡ length bytes₀) × (take i bytes ≡ replicate i 0)
