@@ -31,8 +31,9 @@ use Rattle.addr.specs.Widths.{widthOf}
 use Rattle.addr.specs.Item.{firstRefusal, itemRefusal, itemsRefusal}
 use Rattle.addr.specs.declared.width.Width.{Width}
 use Rattle.addr.proofs.Widths.{widths}
+use Rattle.page_draw.specs.Draws.{topPage}
 use Rattle.page.specs.Page.{start, bytes}
-use Rattle.page.specs.Range.{pageAt, pageAnswer, itemIn, topPage, refusal, pages, drawnBelow, drawnThrough, nthOf, nthBackOf, nthInclusiveOf, nthBackInclusiveOf, pagesOf, pagesInclusiveOf, accepted, acceptedInclusive, empty, emptyInclusive, len, lenInclusive, nthFrom, nthInclusiveFrom, nextFrom, nextInclusiveFrom}
+use Rattle.page.specs.Range.{pageAt, pageAnswer, itemIn, refusal, pages, drawnBelow, drawnThrough, nthOf, nthBackOf, nthInclusiveOf, nthBackInclusiveOf, pagesOf, pagesInclusiveOf, accepted, acceptedInclusive, empty, emptyInclusive, len, lenInclusive, nthFrom, nthInclusiveFrom, nextFrom, nextInclusiveFrom}
 use Rattle.page.specs.declared.page.Page.{Page}
 use Rattle.page.specs.declared.range.PageRange.{PageRange}
 use Rattle.page.specs.declared.range_inclusive.PageRangeInclusive.{PageRangeInclusive}

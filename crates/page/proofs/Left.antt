@@ -16,13 +16,15 @@ use Rattle.table.specs.declared.size.PageSize.{PageSize}
 use Rattle.addr.specs.Widths.{widthOf}
 use Rattle.addr.specs.declared.width.Width.{Width}
 use Rattle.addr.proofs.Widths.{widths}
+use Rattle.page_draw.proofs.Accepted.{room-of}
+use Rattle.page_draw.specs.Draws.{topPage}
 use Rattle.page.specs.Page.{start, bytes}
-use Rattle.page.specs.Range.{pageAt, pageAnswer, topPage, refusal, nthOf, nthBackOf, nthInclusiveOf, nthBackInclusiveOf, pagesOf, pagesInclusiveOf}
+use Rattle.page.specs.Range.{pageAt, pageAnswer, refusal, nthOf, nthBackOf, nthInclusiveOf, nthBackInclusiveOf, pagesOf, pagesInclusiveOf}
 use Rattle.page.specs.declared.page.Page.{Page}
 use Rattle.page.specs.declared.page.PageAnswer.the-variants as page
 use Rattle.page.specs.declared.range.PageRange.{PageRange}
 use Rattle.page.specs.declared.range_inclusive.PageRangeInclusive.{PageRangeInclusive}
-use Rattle.page.proofs.Ranges.{accepted, room-of, nth-settled, nth-back-settled, nth-inclusive-settled, nth-back-inclusive-settled}
+use Rattle.page.proofs.Ranges.{accepted, nth-settled, nth-back-settled, nth-inclusive-settled, nth-back-inclusive-settled}
 
 -- where the page that is answered starts
 answer-start : (z : PageSize) (i : Option ℕ) (p : Page) → pageAnswer z i ≡ page.Page p → i ≡ some (start p)

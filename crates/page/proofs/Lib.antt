@@ -1,6 +1,5 @@
 pub mod Steps
 pub mod Assembled
 pub mod Ranges
-pub mod Next
 pub mod Left
 pub mod Drawn

@@ -7,6 +7,7 @@ use mathlib.Core.List.{List}
 use mathlib.Core.Option.{Option, none, some}
 use lib.Dec.{eqb}
 use Rattle.answer.specs.Outcome.{Outcome, gives, refuses, unless}
+use Rattle.answer.specs.Outcome as outcome
 use Rattle.answer.specs.Refusal.{sizesDiffer, drawMeetsGap}
 use Rattle.laws.specs.Run.{lenBelow, lenThrough, pagesBelow, pagesThrough}
 use Rattle.laws.specs.Draw as draw
@@ -16,6 +17,7 @@ use Rattle.table.specs.declared.size.PageSize.{PageSize}
 use Rattle.addr.specs.Address.{virt}
 use Rattle.addr.specs.Item.{item, firstRefusal, givenItems, itemsRefusal}
 use Rattle.addr.specs.Range.{Ends, ends}
+use Rattle.page_draw.specs.Draws.{GuardedDraw, nthBelow, nthBackBelow, nthThrough, nthBackThrough}
 use Rattle.page.specs.Page.{start, bytes}
 use Rattle.page.specs.declared.page.Page.{Page}
 use Rattle.page.specs.declared.page.PageAnswer.{PageAnswer}
@@ -55,10 +57,6 @@ itemIn (page.Refused k) = none
 itemIn page.None = some none
 itemIn (page.Page p) = some (some (start p))
 
--- the topmost page of a size
-abbrev pub topPage : ℕ → ℕ
-topPage z = 2 ^ 64 - z
-
 -- the number that refuses two pages
 abbrev pub refusal : ℕ → Page → Page → ℕ
 refusal w x y = itemsRefusal (virt w) (start x) (bytes x) (start y) (bytes y)
@@ -74,37 +72,26 @@ drawnBelow a x y = record { answer = a; range = record { start = x; end = y } }
 abbrev pub drawnThrough : PageAnswer → Page → Page → PageDrawInclusive
 drawnThrough a x y = record { answer = a; range = record { start = x; end = y } }
 
--- a draw of the range from `x` to `y`, by whether it meets the gap ("Page draws: 10") and by a draw on its numbers
-abbrev pub pagesDrawn : {D : Type 0} → ℕ → (PageAnswer → Page → Page → D) → Page → Page → Bool → draw.Draw → D
-pagesDrawn w made x y gap d = drawn pages made x y (firstRefusal (refusal w x y) (cond gap drawMeetsGap 0)) d
+-- a draw of the range from `x` to `y` by one on its numbers, behind its refusal; the same where its outcome is told
+abbrev pub pagesDrawn : {D : Type 0} → (PageAnswer → Page → Page → D) → Page → Page → GuardedDraw → D
+pagesDrawn made x y g = drawn pages made x y (g .refusal) (g .draw)
+
+abbrev pub drawnPages : {D : Type 0} → (PageAnswer → Page → Page → D) → Page → Page → Outcome draw.Draw → D
+drawnPages made x y (gives d) = drawn pages made x y 0 d
+drawnPages made x y outcome.none = made page.None x y
+drawnPages made x y (refuses k) = made (page.Refused k) x y
 
 unfoldable pub nthOf : ℕ → PageRange → ℕ → PageDraw
-nthOf w r n =
-    let a = start (r .start) in
-    let b = start (r .end) in
-    let z = bytes (r .start) in
-    pagesDrawn w drawnBelow (r .start) (r .end) (draw.gapFrontBelow w a b z n) (draw.frontBelow (pagesBelow w a b z) a b z n)
+nthOf w r n = pagesDrawn drawnBelow (r .start) (r .end) (nthBelow w (start (r .start)) (bytes (r .start)) (start (r .end)) (bytes (r .end)) n)
 
 unfoldable pub nthBackOf : ℕ → PageRange → ℕ → PageDraw
-nthBackOf w r n =
-    let a = start (r .start) in
-    let b = start (r .end) in
-    let z = bytes (r .start) in
-    pagesDrawn w drawnBelow (r .start) (r .end) (draw.gapBackBelow w a b z n) (draw.backBelow (pagesBelow w a b z) a b z n)
+nthBackOf w r n = pagesDrawn drawnBelow (r .start) (r .end) (nthBackBelow w (start (r .start)) (bytes (r .start)) (start (r .end)) (bytes (r .end)) n)
 
 unfoldable pub nthInclusiveOf : ℕ → PageRangeInclusive → ℕ → PageDrawInclusive
-nthInclusiveOf w r n =
-    let a = start (r .start) in
-    let b = start (r .end) in
-    let z = bytes (r .start) in
-    pagesDrawn w drawnThrough (r .start) (r .end) (draw.gapFrontThrough w a b z n) (draw.frontThrough (pagesThrough w a b z) (topPage z) a b z n)
+nthInclusiveOf w r n = pagesDrawn drawnThrough (r .start) (r .end) (nthThrough w (start (r .start)) (bytes (r .start)) (start (r .end)) (bytes (r .end)) n)
 
 unfoldable pub nthBackInclusiveOf : ℕ → PageRangeInclusive → ℕ → PageDrawInclusive
-nthBackInclusiveOf w r n =
-    let a = start (r .start) in
-    let b = start (r .end) in
-    let z = bytes (r .start) in
-    pagesDrawn w drawnThrough (r .start) (r .end) (draw.gapBackThrough w a b z n) (draw.backThrough (pagesThrough w a b z) a b z n)
+nthBackInclusiveOf w r n = pagesDrawn drawnThrough (r .start) (r .end) (nthBackThrough w (start (r .start)) (bytes (r .start)) (start (r .end)) (bytes (r .end)) n)
 
 -- where the pages of a range start
 abbrev pub pagesOf : ℕ → PageRange → List ℕ

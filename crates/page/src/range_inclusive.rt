@@ -1,5 +1,4 @@
 // A range of pages, with its end.
-use crate::draws::top_page;
 use crate::page::Page;
 use crate::page::PageAnswer;
 use crate::width::pages_refusal;
@@ -9,6 +8,7 @@ use answer::BoolAnswer;
 use answer::OVERFLOW;
 use answer::U64Answer;
 use draw::len_through;
+use page_draw::top_page;
 ghost use mathlib.Core.Path.{_≡_};
 ghost use Rattle.answer.specs.Answers.{u64Of, boolOf};
 ghost use Rattle.addr.specs.Address.{virt};

@@ -4,7 +4,6 @@ use crate::page::PageAnswer;
 use addr::VirtAddr;
 use addr::VirtAnswer;
 use addr::Width;
-use answer::NOT_ALIGNED;
 use answer::NOT_CANONICAL;
 use answer::OVERFLOW;
 use answer::RESULT_NOT_CANONICAL;
@@ -27,33 +26,23 @@ ghost use Rattle.page.specs.Page.{start, bytes, pageOf, pageIndex, ownIn
 pub(crate) fn page_refusal(width: Width, page: Page) -> u8
     ensures { λ r. ⌜ r ≡ itemRefusal (virt (widthOf width)) (start page) (bytes page) ⌝ }
 {
-    let a = page.start_address.0;
-    if !width.is_canonical(a) {
-        return NOT_CANONICAL;
-    }
     let size = page.size;
-    if size.rest(a) == 0 { 0 } else { NOT_ALIGNED }
+    page_draw::page_refusal(width, page.start_address.0, size)
 }
 
 // The number that refuses two pages handed in: that of the first, of the second, then 7; 0 for none.
 pub(crate) fn pages_refusal(width: Width, page: Page, other: Page) -> u8
     ensures { λ r. ⌜ r ≡ itemsRefusal (virt (widthOf width)) (start page) (bytes page) (start other) (bytes other) ⌝ }
 {
-    let refused = page_refusal(width, page);
-    if refused != 0 {
-        return refused;
-    }
-    let other_refused = page_refusal(width, other);
-    if other_refused != 0 {
-        return other_refused;
-    }
     let size = page.size;
     let other_size = other.size;
-    if size.bytes() == other_size.bytes() {
-        0
-    } else {
-        SIZES_DIFFER
-    }
+    page_draw::pages_refusal(
+        width,
+        page.start_address.0,
+        size,
+        other.start_address.0,
+        other_size,
+    )
 }
 
 pub(crate) fn from_start_address(width: Width, address: VirtAddr, size: PageSize) -> PageAnswer

@@ -1,49 +1,48 @@
-// Draws of pages at either width. The ranges have the public names at 48 bits. A draw of one page meets
-// the gap where the range left would start or end in it.
-use crate::draws::gap_back_below;
-use crate::draws::gap_back_through;
-use crate::draws::gap_front_below;
-use crate::draws::gap_front_through;
+// Draws of pages at either width. The ranges have the public names at 48 bits.
 use crate::draws::page_answer;
 use crate::draws::page_at;
-use crate::draws::top_page;
 use crate::page::Page;
 use crate::page::PageAnswer;
 use crate::range::PageDraw;
 use crate::range::PageRange;
 use crate::range_inclusive::PageDrawInclusive;
 use crate::range_inclusive::PageRangeInclusive;
-use crate::width::pages_refusal;
 use addr::Width;
-use answer::DRAW_MEETS_GAP;
-use draw::Draw;
-use draw::back_below;
-use draw::back_through;
-use draw::front_below;
-use draw::front_through;
-use draw::next_back_below;
-use draw::next_back_through;
-use draw::next_below;
-use draw::next_through;
+use page_draw::PagesDraw;
+use page_draw::next_back_below;
+use page_draw::next_back_through;
+use page_draw::next_below;
+use page_draw::next_through;
+use page_draw::nth_back_below;
+use page_draw::nth_back_through;
+use page_draw::nth_below;
+use page_draw::nth_through;
 ghost use mathlib.Core.Path.{_≡_};
-ghost use Rattle.laws.specs.Kind.{drawn as Kind·drawn};
 ghost use Rattle.addr.specs.Widths.{widthOf};
-ghost use Rattle.draw.specs.Draws.{drawOf};
-ghost use Rattle.page.specs.Range.{pages, drawnBelow, drawnThrough, nthOf, nthBackOf, nthInclusiveOf, nthBackInclusiveOf};
+ghost use Rattle.page_draw.specs.Draws.{pagesDrawOf};
+ghost use Rattle.page.specs.Range.{drawnBelow, drawnThrough, drawnPages, nthOf, nthBackOf, nthInclusiveOf, nthBackInclusiveOf};
 
-// What a draw on the numbers of an exclusive range comes to.
-fn drawn(start: Page, end: Page, d: Draw) -> PageDraw
-    ensures { λ r. ⌜ r ≡ Kind·drawn pages drawnBelow start end 0 (drawOf d) ⌝ }
+// What a draw on the numbers of an exclusive range comes to: a refused one leaves the range as it was.
+fn drawn(start: Page, end: Page, drawn: PagesDraw) -> PageDraw
+    ensures { λ r. ⌜ r ≡ drawnPages drawnBelow start end (pagesDrawOf drawn) ⌝ }
 {
-    let size = start.size;
-    let item = d.item;
-    let end_size = end.size;
-    PageDraw {
-        answer: page_answer(size, item),
-        range: PageRange {
-            start: page_at(size, d.start),
-            end: page_at(end_size, d.end),
+    match drawn {
+        PagesDraw::Refused(number) => PageDraw {
+            answer: PageAnswer::Refused(number),
+            range: PageRange { start, end },
         },
+        PagesDraw::Drawn(d) => {
+            let size = start.size;
+            let item = d.item;
+            let end_size = end.size;
+            PageDraw {
+                answer: page_answer(size, item),
+                range: PageRange {
+                    start: page_at(size, d.start),
+                    end: page_at(end_size, d.end),
+                },
+            }
+        }
     }
 }
 
@@ -53,24 +52,20 @@ pub(crate) fn draw_nth(width: Width, range: PageRange, n: u64) -> PageDraw
 {
     let start = range.start;
     let end = range.end;
-    let refused = pages_refusal(width, start, end);
-    if refused != 0 {
-        return PageDraw {
-            answer: PageAnswer::Refused(refused),
-            range,
-        };
-    }
     let size = start.size;
-    let a = start.start_address.0;
-    let b = end.start_address.0;
-    if gap_front_below(width, a, b, size, n) {
-        return PageDraw {
-            answer: PageAnswer::Refused(DRAW_MEETS_GAP),
-            range,
-        };
-    }
-    let d = front_below(a, b, size, n);
-    drawn(start, end, d)
+    let end_size = end.size;
+    drawn(
+        start,
+        end,
+        nth_below(
+            width,
+            start.start_address.0,
+            size,
+            end.start_address.0,
+            end_size,
+            n,
+        ),
+    )
 }
 
 // The first page, and the range from just past it.
@@ -79,22 +74,19 @@ pub(crate) fn draw_next(width: Width, range: PageRange) -> PageDraw
 {
     let start = range.start;
     let end = range.end;
-    let refused = pages_refusal(width, start, end);
-    if refused != 0 {
-        return PageDraw {
-            answer: PageAnswer::Refused(refused),
-            range,
-        };
-    }
     let size = start.size;
-    let d = next_below(start.start_address.0, end.start_address.0, size);
-    if d.start == width.half() {
-        return PageDraw {
-            answer: PageAnswer::Refused(DRAW_MEETS_GAP),
-            range,
-        };
-    }
-    drawn(start, end, d)
+    let end_size = end.size;
+    drawn(
+        start,
+        end,
+        next_below(
+            width,
+            start.start_address.0,
+            size,
+            end.start_address.0,
+            end_size,
+        ),
+    )
 }
 
 // The page n places from the back, and the range up to it.
@@ -103,24 +95,20 @@ pub(crate) fn draw_nth_back(width: Width, range: PageRange, n: u64) -> PageDraw
 {
     let start = range.start;
     let end = range.end;
-    let refused = pages_refusal(width, start, end);
-    if refused != 0 {
-        return PageDraw {
-            answer: PageAnswer::Refused(refused),
-            range,
-        };
-    }
     let size = start.size;
-    let a = start.start_address.0;
-    let b = end.start_address.0;
-    if gap_back_below(width, a, b, size, n) {
-        return PageDraw {
-            answer: PageAnswer::Refused(DRAW_MEETS_GAP),
-            range,
-        };
-    }
-    let d = back_below(a, b, size, n);
-    drawn(start, end, d)
+    let end_size = end.size;
+    drawn(
+        start,
+        end,
+        nth_back_below(
+            width,
+            start.start_address.0,
+            size,
+            end.start_address.0,
+            end_size,
+            n,
+        ),
+    )
 }
 
 // The last page, and the range up to it.
@@ -129,37 +117,42 @@ pub(crate) fn draw_next_back(width: Width, range: PageRange) -> PageDraw
 {
     let start = range.start;
     let end = range.end;
-    let refused = pages_refusal(width, start, end);
-    if refused != 0 {
-        return PageDraw {
-            answer: PageAnswer::Refused(refused),
-            range,
-        };
-    }
     let size = start.size;
-    let d = next_back_below(start.start_address.0, end.start_address.0, size);
-    if d.end == width.first_high() - size.bytes() {
-        return PageDraw {
-            answer: PageAnswer::Refused(DRAW_MEETS_GAP),
-            range,
-        };
-    }
-    drawn(start, end, d)
+    let end_size = end.size;
+    drawn(
+        start,
+        end,
+        next_back_below(
+            width,
+            start.start_address.0,
+            size,
+            end.start_address.0,
+            end_size,
+        ),
+    )
 }
 
-// What a draw on the numbers of an inclusive range comes to.
-fn drawn_inclusive(start: Page, end: Page, d: Draw) -> PageDrawInclusive
-    ensures { λ r. ⌜ r ≡ Kind·drawn pages drawnThrough start end 0 (drawOf d) ⌝ }
+// What a draw on the numbers of an inclusive range comes to: a refused one leaves the range as it was.
+fn drawn_inclusive(start: Page, end: Page, drawn: PagesDraw) -> PageDrawInclusive
+    ensures { λ r. ⌜ r ≡ drawnPages drawnThrough start end (pagesDrawOf drawn) ⌝ }
 {
-    let size = start.size;
-    let item = d.item;
-    let end_size = end.size;
-    PageDrawInclusive {
-        answer: page_answer(size, item),
-        range: PageRangeInclusive {
-            start: page_at(size, d.start),
-            end: page_at(end_size, d.end),
+    match drawn {
+        PagesDraw::Refused(number) => PageDrawInclusive {
+            answer: PageAnswer::Refused(number),
+            range: PageRangeInclusive { start, end },
         },
+        PagesDraw::Drawn(d) => {
+            let size = start.size;
+            let item = d.item;
+            let end_size = end.size;
+            PageDrawInclusive {
+                answer: page_answer(size, item),
+                range: PageRangeInclusive {
+                    start: page_at(size, d.start),
+                    end: page_at(end_size, d.end),
+                },
+            }
+        }
     }
 }
 
@@ -173,24 +166,20 @@ pub(crate) fn draw_nth_inclusive(
 {
     let start = range.start;
     let end = range.end;
-    let refused = pages_refusal(width, start, end);
-    if refused != 0 {
-        return PageDrawInclusive {
-            answer: PageAnswer::Refused(refused),
-            range,
-        };
-    }
     let size = start.size;
-    let a = start.start_address.0;
-    let b = end.start_address.0;
-    if gap_front_through(width, a, b, size, n) {
-        return PageDrawInclusive {
-            answer: PageAnswer::Refused(DRAW_MEETS_GAP),
-            range,
-        };
-    }
-    let d = front_through(a, b, size, top_page(size), n);
-    drawn_inclusive(start, end, d)
+    let end_size = end.size;
+    drawn_inclusive(
+        start,
+        end,
+        nth_through(
+            width,
+            start.start_address.0,
+            size,
+            end.start_address.0,
+            end_size,
+            n,
+        ),
+    )
 }
 
 // The first page, and the range from just past it.
@@ -199,27 +188,19 @@ pub(crate) fn draw_next_inclusive(width: Width, range: PageRangeInclusive) -> Pa
 {
     let start = range.start;
     let end = range.end;
-    let refused = pages_refusal(width, start, end);
-    if refused != 0 {
-        return PageDrawInclusive {
-            answer: PageAnswer::Refused(refused),
-            range,
-        };
-    }
     let size = start.size;
-    let d = next_through(
-        start.start_address.0,
-        end.start_address.0,
-        size,
-        top_page(size),
-    );
-    if d.start == width.half() {
-        return PageDrawInclusive {
-            answer: PageAnswer::Refused(DRAW_MEETS_GAP),
-            range,
-        };
-    }
-    drawn_inclusive(start, end, d)
+    let end_size = end.size;
+    drawn_inclusive(
+        start,
+        end,
+        next_through(
+            width,
+            start.start_address.0,
+            size,
+            end.start_address.0,
+            end_size,
+        ),
+    )
 }
 
 // The page n places from the back, and the range up to it.
@@ -232,24 +213,20 @@ pub(crate) fn draw_nth_back_inclusive(
 {
     let start = range.start;
     let end = range.end;
-    let refused = pages_refusal(width, start, end);
-    if refused != 0 {
-        return PageDrawInclusive {
-            answer: PageAnswer::Refused(refused),
-            range,
-        };
-    }
     let size = start.size;
-    let a = start.start_address.0;
-    let b = end.start_address.0;
-    if gap_back_through(width, a, b, size, n) {
-        return PageDrawInclusive {
-            answer: PageAnswer::Refused(DRAW_MEETS_GAP),
-            range,
-        };
-    }
-    let d = back_through(a, b, size, n);
-    drawn_inclusive(start, end, d)
+    let end_size = end.size;
+    drawn_inclusive(
+        start,
+        end,
+        nth_back_through(
+            width,
+            start.start_address.0,
+            size,
+            end.start_address.0,
+            end_size,
+            n,
+        ),
+    )
 }
 
 // The last page, and the range up to it.
@@ -258,20 +235,17 @@ pub(crate) fn draw_next_back_inclusive(width: Width, range: PageRangeInclusive) 
 {
     let start = range.start;
     let end = range.end;
-    let refused = pages_refusal(width, start, end);
-    if refused != 0 {
-        return PageDrawInclusive {
-            answer: PageAnswer::Refused(refused),
-            range,
-        };
-    }
     let size = start.size;
-    let d = next_back_through(start.start_address.0, end.start_address.0, size);
-    if d.end == width.first_high() - size.bytes() {
-        return PageDrawInclusive {
-            answer: PageAnswer::Refused(DRAW_MEETS_GAP),
-            range,
-        };
-    }
-    drawn_inclusive(start, end, d)
+    let end_size = end.size;
+    drawn_inclusive(
+        start,
+        end,
+        next_back_through(
+            width,
+            start.start_address.0,
+            size,
+            end.start_address.0,
+            end_size,
+        ),
+    )
 }

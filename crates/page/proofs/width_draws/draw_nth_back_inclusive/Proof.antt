@@ -1,45 +1,26 @@
 -- `draw_nth_back_inclusive` meets its contract.
-use mathlib.Core.Path.{sym, ap, _∙_}
+use mathlib.Core.Path.{ap, _∙_}
 use borrow.Author.Needs.{needs}
+use Rattle.answer.specs.Outcome.{Outcome}
 use Rattle.laws.specs.Draw as draw
-use Rattle.page.specs.Range.{drawnThrough}
-use Rattle.page.proofs.Ranges.{settled, nth-back-inclusive-refused, nth-back-inclusive-gap, nth-back-inclusive-settled}
+use Rattle.page.specs.Range.{drawnThrough, drawnPages}
+use Rattle.page.proofs.Ranges.{nth-back-inclusive-pages}
 use Rattle.page.proofs.width_draws.draw_nth_back_inclusive.Statement.{statement}
 use Rattle.page.proofs.width_draws.draw_nth_back_inclusive.Tie as tie
 
-pages-refusal-requires : tie.Need-pages-refusal-requires
-pages-refusal-requires c κs = search needs
-
-returns : tie.Need-returns
-returns c =
-    let a = c .before .before .before .before .args in
-    let e = c .before .pages-refusal .ensures in
-    rw e (nth-back-inclusive-refused (a .width) (a .range) (a .n) (λ z. c .if1 .taken (e ∙ z)))
-
-gap-back-through-requires : tie.Need-gap-back-through-requires
-gap-back-through-requires c κs = search needs
-
-returns-2 : tie.Need-returns-2
-returns-2 c =
-    let a = c .before .before .before .before .before .before .args in
-    let p = sym (c .before .before .before .pages-refusal .ensures) ∙ c .before .before .if1 .left in
-    nth-back-inclusive-gap (a .width) (a .range) (a .n) p (sym (c .before .gap-back-through .ensures) ∙ c .if2 .taken)
-
-back-through-requires : tie.Need-back-through-requires
-back-through-requires c κs = search needs
+nth-back-through-requires : tie.Need-nth-back-through-requires
+nth-back-through-requires c κs = search needs
 
 drawn-inclusive-requires : tie.Need-drawn-inclusive-requires
 drawn-inclusive-requires c κs = search needs
 
-returns-3 : tie.Need-returns-3
-returns-3 c =
-    let a = c .before .before .before .before .before .before .before .before .args in
+returns : tie.Need-returns
+returns c =
+    let a = c .before .before .before .before .args in
     let r = a .range in
-    let p = sym (c .before .before .before .before .before .pages-refusal .ensures) ∙ c .before .before .before .before .if1 .left in
     c .drawn-inclusive .ensures
-    ∙ ap (λ (d : draw.Draw). settled drawnThrough (r .start) (r .end) d) (c .before .back-through .ensures)
-    ∙ nth-back-inclusive-settled (a .width) r (a .n) p (sym (c .before .before .before .gap-back-through .ensures) ∙ c .before .before .if2 .left)
+    ∙ ap (λ (o : Outcome draw.Draw). drawnPages drawnThrough (r .start) (r .end) o) (c .before .nth-back-through .ensures)
+    ∙ nth-back-inclusive-pages (a .width) r (a .n)
 
 pub draw-nth-back-inclusive-spec : {M : Type 1} → statement M
-draw-nth-back-inclusive-spec =
-    tie.close (tie.spec pages-refusal-requires returns gap-back-through-requires returns-2 back-through-requires drawn-inclusive-requires returns-3)
+draw-nth-back-inclusive-spec = tie.close (tie.spec nth-back-through-requires drawn-inclusive-requires returns)

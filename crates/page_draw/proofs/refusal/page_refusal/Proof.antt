@@ -4,8 +4,8 @@ use borrow.Author.Tests.{eq-eqb, ne-eqb}
 use borrow.Author.Needs.{needs}
 use Rattle.laws.proofs.Cases.{test-fails, test-holds}
 use Rattle.addr.specs.Item.{itemRefusal}
-use Rattle.page.proofs.width.page_refusal.Statement.{statement}
-use Rattle.page.proofs.width.page_refusal.Tie as tie
+use Rattle.page_draw.proofs.refusal.page_refusal.Statement.{statement}
+use Rattle.page_draw.proofs.refusal.page_refusal.Tie as tie
 
 is-canonical-requires : tie.Need-is-canonical-requires
 is-canonical-requires c κs = search needs

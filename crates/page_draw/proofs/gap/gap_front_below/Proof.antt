@@ -9,8 +9,8 @@ use Rattle.laws.proofs.Gap.{one-more}
 use Rattle.table.specs.Level.{bytesOf}
 use Rattle.addr.specs.Widths.{widthOf}
 use borrow.Author.Needs.{needs}
-use Rattle.page.proofs.draws.gap_front_below.Statement.{statement}
-use Rattle.page.proofs.draws.gap_front_below.Tie as tie
+use Rattle.page_draw.proofs.gap.gap_front_below.Statement.{statement}
+use Rattle.page_draw.proofs.gap.gap_front_below.Tie as tie
 
 half-requires : tie.Need-half-requires
 half-requires c κs = search needs

@@ -4,8 +4,8 @@ use borrow.Author.Needs.{needs}
 use Rattle.addr.proofs.Item.{items-first, items-second, items-same, items-differ}
 use Rattle.addr.specs.Address.{virt}
 use Rattle.addr.specs.Widths.{widthOf}
-use Rattle.page.proofs.width.pages_refusal.Statement.{statement}
-use Rattle.page.proofs.width.pages_refusal.Tie as tie
+use Rattle.page_draw.proofs.refusal.pages_refusal.Statement.{statement}
+use Rattle.page_draw.proofs.refusal.pages_refusal.Tie as tie
 
 page-refusal-requires : tie.Need-page-refusal-requires
 page-refusal-requires c κs = search needs

@@ -9,9 +9,9 @@ use Rattle.laws.specs.Draw.{gapFrontThrough}
 use Rattle.laws.proofs.Gap.{one-more}
 use Rattle.table.specs.Level.{bytesOf}
 use Rattle.addr.specs.Widths.{widthOf}
-use Rattle.page.proofs.Ranges.{room-of}
-use Rattle.page.proofs.draws.gap_front_through.Statement.{statement}
-use Rattle.page.proofs.draws.gap_front_through.Tie as tie
+use Rattle.page_draw.proofs.Accepted.{room-of}
+use Rattle.page_draw.proofs.gap.gap_front_through.Statement.{statement}
+use Rattle.page_draw.proofs.gap.gap_front_through.Tie as tie
 
 half-requires : tie.Need-half-requires
 half-requires c κs = search needs

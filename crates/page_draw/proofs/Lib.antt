@@ -1,0 +1,3 @@
+pub mod Accepted
+mod Settled
+mod First
