@@ -13,8 +13,8 @@ use Rattle.table.specs.Level.{levelOf, bytesOf}
 use Rattle.table.specs.declared.level.LevelAnswer.{LevelAnswer}
 use Rattle.table.specs.declared.level.LevelAnswer.the-variants as level
 use Rattle.table.specs.declared.level.PageTableLevel.{PageTableLevel}
-use Rattle.convention.specs.Status.{noSuchChoice}
-use Rattle.convention.specs.Convention.{left, leaves}
+use Rattle.status.specs.Status.{noSuchChoice}
+use Rattle.status.specs.Convention.{left, leaves}
 use Rattle.convention.specs.Choice.{isLevel, isSize, areSizes, ofSize, sizeWith}
 
 -- an answer says whether its test holds

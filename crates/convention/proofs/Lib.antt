@@ -1,4 +1,4 @@
-pub mod Stored
+pub mod Truth
 pub mod Choice
 pub mod Bounded
 pub mod ListCalls

@@ -18,8 +18,8 @@ use Rattle.paging.specs.Search.{searchRefusal, imagePages}
 use Rattle.paging.specs.List.{Listing, room, settled, listing}
 use Rattle.paging.specs.ListAgreement.{ChainsAgree}
 use Rattle.paging.proofs.ListAgreement.{lists-agree}
-use Rattle.convention.specs.Status.{answered}
-use Rattle.convention.specs.Convention.{leaves}
+use Rattle.status.specs.Status.{answered}
+use Rattle.status.specs.Convention.{leaves}
 use Rattle.convention.specs.Images.{listedLength, leavesList}
 use Rattle.convention.specs.ListCalls.{readList, ListCallsAgree}
 

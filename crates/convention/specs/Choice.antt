@@ -12,7 +12,7 @@ use Rattle.frame.specs.declared.range_inclusive.PhysFrameRangeInclusive.{PhysFr
 use Rattle.page.specs.declared.page.Page.{Page}
 use Rattle.page.specs.declared.range.PageRange.{PageRange}
 use Rattle.page.specs.declared.range_inclusive.PageRangeInclusive.{PageRangeInclusive}
-use Rattle.convention.specs.Status.{noSuchChoice}
+use Rattle.status.specs.Status.{noSuchChoice}
 use Rattle.convention.specs.declared.choose.SizeChoice.{SizeChoice}
 use Rattle.convention.specs.declared.choose.SizeChoice.the-variants as size
 use Rattle.convention.specs.declared.choose.SizesChoice.{SizesChoice}

@@ -11,8 +11,8 @@ use Rattle.addr.specs.Item.{Item}
 use Rattle.paging.specs.Translate.{Translated, translatedWords}
 use Rattle.paging.specs.Search.{Report, reportWords}
 use Rattle.paging.specs.List.{Listed, Listing, Remembered}
-use Rattle.convention.specs.Status.{noRoom}
-use Rattle.convention.specs.Convention.{Left, left, leaves, inWords}
+use Rattle.status.specs.Status.{noRoom}
+use Rattle.status.specs.Convention.{Left, left, leaves, inWords}
 
 abbrev pub translationWords : Outcome Translated → Outcome (List ℕ)
 translationWords o = inWords translatedWords o

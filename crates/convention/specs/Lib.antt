@@ -1,5 +1,4 @@
-pub mod Status
-pub mod Convention
+pub mod Items
 pub mod Choice
 pub mod Ranges
 pub mod Images

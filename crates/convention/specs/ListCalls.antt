@@ -11,7 +11,7 @@ use Rattle.addr.specs.Item.{item}
 use Rattle.paging.specs.Translate.{imageRefusal}
 use Rattle.paging.specs.List.{Listing, listing}
 use Rattle.paging.specs.ListAgreement.{ChainsAgree}
-use Rattle.convention.specs.Status.{answered}
+use Rattle.status.specs.Status.{answered}
 use Rattle.convention.specs.Images.{LeftList, listedLength, leavesList}
 
 -- of a call that is answered, its own words: how many answers were written, whether the search is over, and the address of the next page, of 4 KiB; another status is

@@ -17,7 +17,7 @@ use Rattle.page.specs.declared.range.PageRange.{PageRange}
 use Rattle.page.specs.declared.range_inclusive.PageRangeInclusive.{PageRangeInclusive}
 use Rattle.frame.specs.Range.{frameAt}
 use Rattle.page.specs.Range.{pageAt}
-use Rattle.convention.specs.Convention.{inWords}
+use Rattle.status.specs.Convention.{inWords}
 use Rattle.convention.specs.Choice.{sizeWith}
 
 -- start and end

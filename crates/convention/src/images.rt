@@ -1,7 +1,4 @@
 // Translations and searches, stored.
-use crate::words::give_five;
-use crate::words::give_four;
-use crate::words::give_three;
 use image::END;
 use image::ListAnswer;
 use image::OUTSIDE;
@@ -10,6 +7,9 @@ use image::RUN;
 use image::SearchAnswer;
 use image::StopReason;
 use paging::Rights;
+use status::give_five;
+use status::give_four;
+use status::give_three;
 use translation::TranslateAnswer;
 ghost use mathlib.Core.Path.{_≡_};
 ghost use Rattle.image.specs.List.{listedOf};
@@ -17,7 +17,7 @@ ghost use Rattle.paging.specs.Packed.{rightsBits};
 ghost use Rattle.image.specs.Search.{reportOf};
 ghost use Rattle.paging.specs.Rights.{rightsHeld};
 ghost use Rattle.translation.specs.Translate.{translationOf};
-ghost use Rattle.convention.specs.Convention.{left, leaves};
+ghost use Rattle.status.specs.Convention.{left, leaves};
 ghost use Rattle.convention.specs.Images.{translationWords, searchWords, listed};
 
 // The kinds of a translation, beside `RESERVED` and `OUTSIDE`.

@@ -3,9 +3,7 @@
 mod choose;
 mod images;
 mod ranges;
-mod status;
 mod store;
-mod words;
 
 pub use choose::FrameChoice;
 pub use choose::FrameRangeChoice;
@@ -35,8 +33,6 @@ pub use ranges::give_page_draw;
 pub use ranges::give_page_draw_inclusive;
 pub use ranges::give_page_range;
 pub use ranges::give_page_range_inclusive;
-pub use status::NO_ROOM;
-pub use status::NO_SUCH_CHOICE;
 pub use store::give_bool;
 pub use store::give_frame;
 pub use store::give_index;
@@ -46,4 +42,3 @@ pub use store::give_page;
 pub use store::give_phys;
 pub use store::give_u64;
 pub use store::give_virt;
-pub use words::give;

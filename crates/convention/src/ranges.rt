@@ -1,6 +1,4 @@
 // Ranges and draws, stored.
-use crate::words::give_four;
-use crate::words::give_two;
 use frame::FrameAnswer;
 use frame::FrameDraw;
 use frame::FrameDrawInclusive;
@@ -11,10 +9,12 @@ use page::PageDraw;
 use page::PageDrawInclusive;
 use page::PageRangeAnswer;
 use page::PageRangeInclusiveAnswer;
+use status::give_four;
+use status::give_two;
 ghost use mathlib.Core.Path.{_≡_};
 ghost use Rattle.frame.specs.Range.{rangeOf, rangeInclusiveOf};
 ghost use Rattle.page.specs.Range.{rangeOf as Page·rangeOf, rangeInclusiveOf as Page·rangeInclusiveOf};
-ghost use Rattle.convention.specs.Convention.{left, leaves};
+ghost use Rattle.status.specs.Convention.{left, leaves};
 ghost use Rattle.convention.specs.Ranges.{pair, frameWords, pageWords, frameDrawWords, frameDrawInclusiveWords, pageDrawWords, pageDrawInclusiveWords};
 
 pub fn give_frame_range(answer: FrameRangeAnswer, out: &mut [u64]) -> u8

@@ -1,12 +1,12 @@
 // Answers, stored: each gives its status, and its words at the start of the lent slice.
-use crate::status::NONE;
-use crate::words::give;
 use addr::PhysAnswer;
 use addr::VirtAnswer;
 use answer::BoolAnswer;
 use answer::U64Answer;
 use frame::FrameAnswer;
 use page::PageAnswer;
+use status::NONE;
+use status::give;
 use table::IndexAnswer;
 use table::LevelAnswer;
 use table::OffsetAnswer;
@@ -16,7 +16,8 @@ ghost use Rattle.table.specs.Answers.{indexOf, offsetOf, levelAnswerOf};
 ghost use Rattle.addr.specs.Answers.{virtOf, physOf};
 ghost use Rattle.frame.specs.Frame.{frameOf};
 ghost use Rattle.page.specs.Page.{pageOf};
-ghost use Rattle.convention.specs.Convention.{left, leaves, word, truth, startWord};
+ghost use Rattle.status.specs.Convention.{left, leaves, word, truth};
+ghost use Rattle.convention.specs.Items.{startWord};
 
 pub fn give_u64(answer: U64Answer, out: &mut [u64]) -> u8
     ensures { λ r. ⌜ left r (now (out .exit)) ≡ leaves (word (u64Of answer)) (now (out .entry)) ⌝ }

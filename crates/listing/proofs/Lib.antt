@@ -1,4 +1,2 @@
 pub mod Fewest
 pub mod Growing
-pub mod Number
-pub mod Words

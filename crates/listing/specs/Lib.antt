@@ -1,3 +1,2 @@
 pub mod Growth
-pub mod Input
 pub mod Text

@@ -1,12 +1,6 @@
-// The input and the lines of the program `runs`, as functions over bytes.
-mod input;
+// The lines of the program `runs`, as functions over bytes.
 mod line;
 
-pub use input::Header;
-pub use input::HeaderAnswer;
-pub use input::MOST_WORDS;
-pub use input::read_header;
-pub use input::read_words;
 pub use line::LINE_BYTES;
 pub use line::Line;
 pub use line::end_line;

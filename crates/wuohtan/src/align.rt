@@ -4,7 +4,7 @@ use addr::align_up;
 use convention::give_u64;
 ghost use mathlib.Core.Path.{_≡_};
 ghost use Rattle.addr.specs.Align.{alignDown, alignUp};
-ghost use Rattle.convention.specs.Convention.{left, leaves, word};
+ghost use Rattle.status.specs.Convention.{left, leaves, word};
 
 #[no_mangle]
 pub extern "C" fn wuohtan_align_down(addr: u64, align: u64, out: &mut [u64]) -> u8

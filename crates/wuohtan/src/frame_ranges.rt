@@ -1,7 +1,6 @@
 // Ranges of frames, as numbers: start and end, each with its size in bytes.
 use convention::FrameRangeChoice;
 use convention::FrameRangeInclusiveChoice;
-use convention::NO_SUCH_CHOICE;
 use convention::choose_frame_range;
 use convention::choose_frame_range_inclusive;
 use convention::give_bool;
@@ -19,11 +18,12 @@ use frame::draw_nth;
 use frame::draw_nth_back;
 use frame::draw_nth_back_inclusive;
 use frame::draw_nth_inclusive;
+use status::NO_SUCH_CHOICE;
 ghost use mathlib.Core.Path.{_≡_};
 ghost use Rattle.addr.specs.Address.{phys};
 ghost use Rattle.addr.specs.Range.{makeRange, emptyBelow, emptyThrough, countBelow, countThrough, bytesBelow, bytesThrough};
 ghost use Rattle.frame.specs.Range.{nthOf, nthBackOf, nthInclusiveOf, nthBackInclusiveOf};
-ghost use Rattle.convention.specs.Convention.{left, leaves, word, truth};
+ghost use Rattle.status.specs.Convention.{left, leaves, word, truth};
 ghost use Rattle.convention.specs.Choice.{ofSize};
 ghost use Rattle.convention.specs.Ranges.{pair, frameDrawWords, frameDrawInclusiveWords, frameRangeAt, frameRangeInclusiveAt};
 

@@ -2,7 +2,6 @@
 use addr::PhysAddr;
 use convention::FrameChoice;
 use convention::FrameRangeChoice;
-use convention::NO_SUCH_CHOICE;
 use convention::SizeChoice;
 use convention::choose_frame;
 use convention::choose_frame_range;
@@ -11,11 +10,13 @@ use convention::give_frame;
 use convention::give_phys;
 use convention::give_u64;
 use frame::PhysFrame;
+use status::NO_SUCH_CHOICE;
 ghost use mathlib.Core.Path.{_≡_};
 ghost use Rattle.addr.specs.Address.{phys};
 ghost use Rattle.addr.specs.Item.{fromStart, containing, startOf, sizeOf, plusItem, minusItem, distanceItem};
 ghost use Rattle.frame.specs.Frame.{fromPfn, pfnOf};
-ghost use Rattle.convention.specs.Convention.{left, leaves, word, startWord};
+ghost use Rattle.status.specs.Convention.{left, leaves, word};
+ghost use Rattle.convention.specs.Items.{startWord};
 ghost use Rattle.convention.specs.Choice.{ofSize};
 
 #[no_mangle]

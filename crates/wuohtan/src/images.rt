@@ -2,18 +2,18 @@
 use addr::PhysAddr;
 use addr::VirtAddr;
 use convention::LISTED_WORDS;
-use convention::NO_ROOM;
 use convention::give_listed;
 use convention::give_search;
 use convention::give_translation;
 use image::list;
 use image::search;
+use status::NO_ROOM;
 use translation::translate;
 ghost use mathlib.Core.Path.{_≡_};
 ghost use Rattle.paging.specs.List.{listing};
 ghost use Rattle.paging.specs.Search.{searching};
 ghost use Rattle.paging.specs.Translate.{translation};
-ghost use Rattle.convention.specs.Convention.{left, leaves};
+ghost use Rattle.status.specs.Convention.{left, leaves};
 ghost use Rattle.convention.specs.Images.{translationWords, searchWords, leftList, leavesList, LeftBytes};
 
 #[no_mangle]

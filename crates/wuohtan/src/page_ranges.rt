@@ -1,5 +1,4 @@
 // Ranges of pages, as numbers: start and end, each with its size in bytes.
-use convention::NO_SUCH_CHOICE;
 use convention::PageRangeChoice;
 use convention::PageRangeInclusiveChoice;
 use convention::choose_page_range;
@@ -19,11 +18,12 @@ use page::draw_nth;
 use page::draw_nth_back;
 use page::draw_nth_back_inclusive;
 use page::draw_nth_inclusive;
+use status::NO_SUCH_CHOICE;
 ghost use mathlib.Core.Path.{_≡_};
 ghost use Rattle.addr.specs.Address.{virt};
 ghost use Rattle.addr.specs.Range.{makeRange, emptyBelow, emptyThrough, countBelow, countThrough, bytesBelow, bytesThrough};
 ghost use Rattle.page.specs.Range.{nthOf, nthBackOf, nthInclusiveOf, nthBackInclusiveOf, as4KiB};
-ghost use Rattle.convention.specs.Convention.{left, leaves, word, truth};
+ghost use Rattle.status.specs.Convention.{left, leaves, word, truth};
 ghost use Rattle.convention.specs.Choice.{ofSize};
 ghost use Rattle.convention.specs.Ranges.{pair, pageDrawWords, pageDrawInclusiveWords, pageRangeAt, pageRangeInclusiveAt};
 

@@ -1,6 +1,5 @@
 // Pages, as numbers: a start and a size in bytes.
 use addr::VirtAddr;
-use convention::NO_SUCH_CHOICE;
 use convention::PageChoice;
 use convention::PageRangeChoice;
 use convention::SizeChoice;
@@ -14,13 +13,15 @@ use convention::give_u64;
 use convention::give_virt;
 use convention::saturated;
 use page::Page;
+use status::NO_SUCH_CHOICE;
 use table::LevelAnswer;
 use table::PageTableIndex;
 ghost use mathlib.Core.Path.{_≡_};
 ghost use Rattle.addr.specs.Address.{virt};
 ghost use Rattle.addr.specs.Item.{fromStart, containing, startOf, sizeOf, plusItem, minusItem, distanceItem};
 ghost use Rattle.page.specs.Page.{pageIndex, ownIndex, fromIndices, fromIndices2MiB, fromIndices1GiB, pageForward, pageBackward, pageSteps};
-ghost use Rattle.convention.specs.Convention.{left, leaves, word, startWord};
+ghost use Rattle.status.specs.Convention.{left, leaves, word};
+ghost use Rattle.convention.specs.Items.{startWord};
 ghost use Rattle.convention.specs.Choice.{atLevel, ofSize};
 
 #[no_mangle]

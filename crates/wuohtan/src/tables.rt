@@ -1,12 +1,12 @@
 // Table indices, offsets and levels, as numbers.
-use convention::NO_SUCH_CHOICE;
 use convention::choose_level;
-use convention::give;
 use convention::give_index;
 use convention::give_level;
 use convention::give_offset;
 use convention::give_u64;
 use convention::saturated;
+use status::NO_SUCH_CHOICE;
+use status::give;
 use table::LevelAnswer;
 use table::PageOffset;
 use table::PageTableIndex;
@@ -17,7 +17,7 @@ ghost use Rattle.answer.specs.Outcome.{gives};
 ghost use Rattle.laws.specs.Index.{span};
 ghost use Rattle.table.specs.Index.{small, indexForward, indexBackward, indexSteps};
 ghost use Rattle.table.specs.Level.{lower, higher};
-ghost use Rattle.convention.specs.Convention.{left, leaves, word};
+ghost use Rattle.status.specs.Convention.{left, leaves, word};
 ghost use Rattle.convention.specs.Choice.{atLevel};
 
 #[no_mangle]

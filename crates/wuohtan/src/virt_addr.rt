@@ -1,20 +1,20 @@
 // Virtual addresses, as numbers.
 use addr::VirtAddr;
-use convention::NO_SUCH_CHOICE;
 use convention::choose_level;
-use convention::give;
 use convention::give_bool;
 use convention::give_index;
 use convention::give_offset;
 use convention::give_u64;
 use convention::give_virt;
+use status::NO_SUCH_CHOICE;
+use status::give;
 use table::LevelAnswer;
 ghost use mathlib.Core.Path.{_≡_};
 ghost use mathlib.Core.List.{[], _∷_};
 ghost use Rattle.answer.specs.Outcome.{gives};
 ghost use Rattle.laws.specs.Width.{signExtend};
 ghost use Rattle.addr.specs.Address.{virt, address, isNull, isAligned, plus, minus, distance, alignDownVirt, alignUpVirt, forwardFrom, backwardFrom, stepsBetween, pageOffset, tableIndex};
-ghost use Rattle.convention.specs.Convention.{left, leaves, word, truth};
+ghost use Rattle.status.specs.Convention.{left, leaves, word, truth};
 ghost use Rattle.convention.specs.Choice.{atLevel};
 
 #[no_mangle]

@@ -1,7 +1,7 @@
 -- `bits_of` meets its contract.
 use native.Mathlib.Omega.{arith}
 use borrow.Author.Needs.{needs}
-use Rattle.convention.proofs.Stored.{truth-small}
+use Rattle.convention.proofs.Truth.{truth-small}
 use Rattle.convention.proofs.images.bits_of.Statement.{statement}
 use Rattle.convention.proofs.images.bits_of.Tie as tie
 

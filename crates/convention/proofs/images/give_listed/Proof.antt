@@ -1,6 +1,6 @@
 -- `give_listed` meets its contract.
 use borrow.Author.Needs.{needs}
-use Rattle.convention.specs.Convention.{leaves}
+use Rattle.status.specs.Convention.{leaves}
 use Rattle.convention.proofs.images.give_listed.Statement.{statement}
 use Rattle.convention.proofs.images.give_listed.Tie as tie
 

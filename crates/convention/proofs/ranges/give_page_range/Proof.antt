@@ -1,6 +1,6 @@
 -- `give_page_range` meets its contract.
 use borrow.Author.Needs.{needs}
-use Rattle.convention.specs.Convention.{leaves}
+use Rattle.status.specs.Convention.{leaves}
 use Rattle.convention.proofs.ranges.give_page_range.Statement.{statement}
 use Rattle.convention.proofs.ranges.give_page_range.Tie as tie
 

@@ -1,7 +1,7 @@
 -- `give_bool` meets its contract.
 use borrow.Author.Needs.{needs}
-use Rattle.convention.proofs.Stored.{truth-word}
-use Rattle.convention.specs.Convention.{leaves}
+use Rattle.convention.proofs.Truth.{truth-word}
+use Rattle.status.specs.Convention.{leaves}
 use Rattle.convention.proofs.store.give_bool.Statement.{statement}
 use Rattle.convention.proofs.store.give_bool.Tie as tie
 

@@ -1,6 +1,6 @@
 -- `give_offset` meets its contract.
 use borrow.Author.Needs.{needs}
-use Rattle.convention.specs.Convention.{leaves}
+use Rattle.status.specs.Convention.{leaves}
 use Rattle.convention.proofs.store.give_offset.Statement.{statement}
 use Rattle.convention.proofs.store.give_offset.Tie as tie
 

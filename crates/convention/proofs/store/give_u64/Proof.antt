@@ -1,6 +1,6 @@
 -- `give_u64` meets its contract.
 use borrow.Author.Needs.{needs}
-use Rattle.convention.specs.Convention.{leaves}
+use Rattle.status.specs.Convention.{leaves}
 use Rattle.convention.proofs.store.give_u64.Statement.{statement}
 use Rattle.convention.proofs.store.give_u64.Tie as tie
 

@@ -1,6 +1,6 @@
 -- `give_virt` meets its contract.
 use borrow.Author.Needs.{needs}
-use Rattle.convention.specs.Convention.{leaves}
+use Rattle.status.specs.Convention.{leaves}
 use Rattle.convention.proofs.store.give_virt.Statement.{statement}
 use Rattle.convention.proofs.store.give_virt.Tie as tie
 

@@ -2,7 +2,8 @@
 use mathlib.Core.Path.{ap, _∙_}
 use borrow.Author.Needs.{needs}
 use Rattle.answer.specs.Outcome.{Outcome}
-use Rattle.convention.specs.Convention.{leaves, startWord}
+use Rattle.status.specs.Convention.{leaves}
+use Rattle.convention.specs.Items.{startWord}
 use Rattle.wuohtan.proofs.Cut.{cut-2mib}
 use Rattle.addr.specs.Item.{Item}
 use Rattle.wuohtan.proofs.pages.wuohtan_page_from_page_table_indices_2mib.Statement.{statement}

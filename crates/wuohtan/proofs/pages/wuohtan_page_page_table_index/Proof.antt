@@ -1,7 +1,7 @@
 -- `wuohtan_page_page_table_index` meets its contract.
 use borrow.Author.Needs.{needs}
 use Rattle.convention.proofs.Choice.{level-chosen, level-missing, size-chosen, size-missing}
-use Rattle.convention.specs.Convention.{leaves}
+use Rattle.status.specs.Convention.{leaves}
 use Rattle.wuohtan.proofs.pages.wuohtan_page_page_table_index.Statement.{statement}
 use Rattle.wuohtan.proofs.pages.wuohtan_page_page_table_index.Tie as tie
 
