@@ -1,6 +1,6 @@
 // A byte for each 512 words, in it a bit for each level. What has no bit is not remembered.
-use paging::TABLE_WORDS;
-use paging::within_span;
+use walk::TABLE_WORDS;
+use walk::within_span;
 ghost use mathlib.Core.Path.{_≡_};
 ghost use lib.ListN.{length, replicate};
 ghost use Rattle.paging.specs.EmptyTables.{hasBit, marked, marking, markingWhole};

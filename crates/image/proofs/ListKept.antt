@@ -13,7 +13,7 @@ use Rattle.mapping.proofs.Walk.{broken-span, spanned}
 use Rattle.paging.specs.Entry.{entryBy}
 use Rattle.paging.specs.Packed.{Fits}
 use Rattle.image.specs.Found.{Kept}
-use Rattle.paging.proofs.Walked.{fits}
+use Rattle.walk.proofs.Walked.{fits}
 
 -- a page's frame is below 2^40, a broken entry's level is 1 to 5
 abbrev KeptState : PageState → Type 0

@@ -5,7 +5,7 @@ use Rattle.addr.specs.Item.{item}
 use Rattle.frame.specs.Frame as frame
 use Rattle.page.specs.Page as page
 use Rattle.paging.specs.Search.{Report, end, stop, run}
-use Rattle.paging.specs.Rights.{rightsHeld}
+use Rattle.walk.specs.Rights.{rightsHeld}
 use Rattle.image.specs.declared.run_search.StopReason.{StopReason}
 use Rattle.image.specs.declared.run_search.StopReason.the-variants as reason
 use Rattle.image.specs.declared.run_search.SearchAnswer.{SearchAnswer}

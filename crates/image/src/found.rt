@@ -3,7 +3,7 @@ use crate::lowest::pass_root;
 use crate::span::span_end;
 use crate::span::span_pages;
 use addr::Width;
-use paging::page_count;
+use walk::page_count;
 ghost use mathlib.Core.Bool.{cond};
 ghost use mathlib.Core.Path.{_≡_};
 ghost use Prim.Native.Nat.{_/_, _<_};

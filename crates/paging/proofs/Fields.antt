@@ -1,12 +1,12 @@
 -- What an entry's word says, by its fields.
-use Prim.Native.Nat.{ℕ, _+_, _-_, _*_, _/_, _%_, _^_, _≤_, _<_}
+use Prim.Native.Nat.{ℕ, suc, _+_, _-_, _*_, _/_, _%_, _^_, _≤_, _<_}
 use mathlib.Core.Path.{_≡_, ap, _∙_, fun-ext}
 use mathlib.Core.Bool.{true, false, and-false}
 use native.Mathlib.Omega.{arith}
-use native.Mathlib.Nat.{mod-one, mul-one}
+use native.Mathlib.Nat.{mod-lt, mod-one, mul-one, mul-le-mul-right, suc-mul}
 use lib.Bits.{bitAnd, and-zero-r}
 use lib.Dec.{eqb, leb}
-use lib.Pow.{field, shr-shr, mod-mod-pow, mod-pow-add}
+use lib.Pow.{field, shr-shr, mod-mod-pow, mod-pow-add, pow-pos, pow-add}
 use borrow.Author.Tests.{eq-eqb, ne-eqb, le-leb, lt-leb}
 use Rattle.mapping.specs.Walk.{notPresent, reservedBit, maps, table, spanPages}
 use Rattle.paging.specs.Entry.{set, rightsOf, firstFrame, tableAddress, entry, entryBy}
@@ -35,6 +35,17 @@ module _ (n v : ℕ) (h : 1 ≤ n) (k : n ≤ 4) where
       let f : v / 2 ^ 12 % 2 ^ (40 - 9 * n + 9 * n) ≡ v / 2 ^ 12 / 2 ^ (9 * n) % 2 ^ (40 - 9 * n) * 2 ^ (9 * n) + v / 2 ^ 12 % 2 ^ (9 * n)
       = mod-pow-add (v / 2 ^ 12) (40 - 9 * n) (9 * n) in
       rw (rest-low, d) (rw (e, shr-shr v 12 (9 * n)) at f)
+
+-- the frames of an entry are below 2^40
+pub first-frame : (n v : ℕ) → n ≤ 2 → firstFrame (n + 1) v + spanPages n ≤ 2 ^ 40
+first-frame n v h =
+    let k = 40 - 9 * n in
+    let q = v / 2 ^ (12 + 9 * n) % 2 ^ k in
+    let e : n + 1 - 1 ≡ n = omega arith in
+    let s : k + 9 * n ≡ 40 = omega arith in
+    let p : 2 ^ (k + 9 * n) ≡ 2 ^ k * 2 ^ (9 * n) = pow-add 2 k (9 * n) in
+    let b : suc q * 2 ^ (9 * n) ≤ 2 ^ k * 2 ^ (9 * n) = mul-le-mul-right (2 ^ (9 * n)) (mod-lt (v / 2 ^ (12 + 9 * n)) (pow-pos k)) in
+    rw e (omega (arith, rw s at p, suc-mul q (2 ^ (9 * n))))
 
 -- at the physical width 52 with no-execute on the processor reserves no bit of its own
 pub no-mask : entryBy 0 ≡ entry 52 true

@@ -1,14 +1,12 @@
 pub mod Fields
 pub mod RightsBits
 pub mod Places
-pub mod Looks
-pub mod Walked
-pub mod Refused
+pub mod OneSegment
+pub mod Unpacking
 pub mod Spanning
 pub mod FourWords
 pub mod Passing
-pub mod Lowest
-pub mod Upper
+pub mod ReadBits
 pub mod Remembering
 pub mod Emptiness
 pub mod ListWords

@@ -2,14 +2,10 @@ pub mod Entry
 pub mod Memory
 pub mod Span
 pub mod Packed
-pub mod Rights
-pub mod Look
-pub mod Place
 pub mod Pages
 pub mod Progress
 pub mod EmptyTables
 pub mod Translate
-pub mod Root
 pub mod Search
 pub mod List
 pub mod Agreement

@@ -8,8 +8,8 @@ use Rattle.mapping.specs.Walk.{Walked}
 use Rattle.table.specs.Level.{bytesOf}
 use Rattle.table.specs.declared.size.PageSize.{PageSize}
 use Rattle.paging.specs.Packed.{Fits, packed}
-use Rattle.paging.specs.Rights.{rightsHeld}
 use Rattle.paging.specs.Translate.{Translated, mapped, absent, broken, translated}
+use Rattle.walk.specs.Rights.{rightsHeld}
 use Rattle.translation.specs.declared.translation.TranslateAnswer.{TranslateAnswer}
 use Rattle.translation.specs.declared.translation.TranslateAnswer.the-variants as answer
 

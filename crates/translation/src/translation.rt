@@ -1,18 +1,18 @@
 // Translation of an address.
-use crate::walk::walk_table;
+use crate::tables::walk_table;
 use addr::PhysAddr;
 use addr::VirtAddr;
 use addr::Width;
 use answer::NOT_CANONICAL;
-use paging::ALL_RIGHTS;
-use paging::NO_MASK;
-use paging::Rights;
-use paging::Root;
-use paging::image_place;
-use paging::levels;
-use paging::page_number;
-use paging::rights_from;
 use table::PageSize;
+use walk::ALL_RIGHTS;
+use walk::NO_MASK;
+use walk::Rights;
+use walk::Root;
+use walk::image_place;
+use walk::levels;
+use walk::page_number;
+use walk::rights_from;
 ghost use mathlib.Core.Path.{_≡_};
 ghost use Rattle.addr.specs.Widths.{widthOf, levelsOf};
 ghost use Rattle.paging.specs.Memory.{segmentsIn, Inside};

@@ -16,13 +16,14 @@ use Rattle.paging.specs.List.{settled, listing}
 use Rattle.paging.specs.Memory.{Segment, placeFrom, segmentsIn, tableAt, Inside}
 use Rattle.paging.specs.Search.{pagesFrom, imagePages, searchRefusal}
 use Rattle.paging.specs.Translate.{pageNumber, rootTable}
-use Rattle.paging.specs.Root.{Placed}
-use Rattle.paging.specs.declared.refusal.Root.{Root}
-use Rattle.paging.specs.declared.refusal.Root.the-variants as root
 use Rattle.paging.proofs.Fields.{no-mask}
 use Rattle.paging.proofs.Places.{place-inside}
-use Rattle.paging.proofs.Refused.{search-told, pages-placed}
+use Rattle.paging.proofs.OneSegment.{pages-placed}
 use Rattle.paging.proofs.Remembering.{forgotten-true}
+use Rattle.walk.specs.Root.{Placed}
+use Rattle.walk.specs.declared.refusal.Root.{Root}
+use Rattle.walk.specs.declared.refusal.Root.the-variants as root
+use Rattle.walk.proofs.Refused.{search-told}
 use Rattle.image.proofs.list_searches.list.Statement.{statement}
 use Rattle.image.proofs.list_searches.list.Tie as tie
 

@@ -12,17 +12,17 @@ use lib.Dec.{lit<}
 use lib.ListN.{length, getD}
 use Rattle.mapping.specs.Walk.{allRights, spanPages, wordFor}
 use Rattle.paging.specs.Entry.{entryBy}
-use Rattle.paging.specs.Look.{seen}
 use Rattle.paging.specs.Memory.{segmentsIn, placeFrom, tableFrom, tableIn}
 use Rattle.paging.specs.Packed.{rightsOver}
 use Rattle.paging.specs.Pages.{pagesBy}
-use Rattle.paging.specs.Place.{placeOf}
 use Rattle.paging.specs.Span.{after}
-use Rattle.paging.specs.declared.look.Look.the-variants as look
-use Rattle.paging.specs.declared.memory.Place.the-variants as place
 use Rattle.paging.proofs.Places.{table-word, place-inside, place-reached}
 use Rattle.paging.proofs.Spanning.{lowest-ends}
-use Rattle.paging.proofs.Upper.{under-table}
+use Rattle.walk.specs.Look.{seen}
+use Rattle.walk.specs.Place.{placeOf}
+use Rattle.walk.specs.declared.look.Look.the-variants as look
+use Rattle.walk.specs.declared.memory.Place.the-variants as place
+use Rattle.walk.proofs.Upper.{under-table}
 use Rattle.image.proofs.lowest.lowest_table.Statement.{statement}
 use Rattle.image.proofs.lowest.lowest_table.Tie as tie
 

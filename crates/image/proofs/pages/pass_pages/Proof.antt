@@ -19,9 +19,9 @@ use Rattle.paging.specs.Pages.{pagesBy}
 use Rattle.paging.specs.Progress.{GoesOn, Passes, Takes}
 use Rattle.paging.specs.Span.{after}
 use Rattle.paging.proofs.FourWords.{going-length}
-use Rattle.paging.proofs.Lowest.{page-absent, page-masked, page-mapped, all-absent, all-mapped}
 use Rattle.paging.proofs.Passing.{passes-none, passes-length, passes-on, passes-in, still-goes, passes-absent, ends-absent, stops-reserved, passes-mapped, ends-mapped}
 use Rattle.paging.proofs.RightsBits.{rights-step}
+use Rattle.walk.proofs.Lowest.{page-absent, page-masked, page-mapped, all-absent, all-mapped}
 use Rattle.image.proofs.pages.pass_pages.Statement.{statement}
 use Rattle.image.proofs.pages.pass_pages.Tie as tie
 

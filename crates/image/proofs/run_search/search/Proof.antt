@@ -13,11 +13,12 @@ use Rattle.addr.proofs.Item.{refused-unless}
 use Rattle.paging.specs.Memory.{Segment, placeFrom, segmentsIn, Inside}
 use Rattle.paging.specs.Search.{pagesFrom, imagePages, report, searchRefusal, searching}
 use Rattle.paging.specs.Translate.{pageNumber, rootTable}
-use Rattle.paging.specs.Root.{Placed}
-use Rattle.paging.specs.declared.refusal.Root.{Root}
-use Rattle.paging.specs.declared.refusal.Root.the-variants as root
 use Rattle.paging.proofs.Places.{place-inside}
-use Rattle.paging.proofs.Refused.{search-told, pages-placed}
+use Rattle.paging.proofs.OneSegment.{pages-placed}
+use Rattle.walk.specs.Root.{Placed}
+use Rattle.walk.specs.declared.refusal.Root.{Root}
+use Rattle.walk.specs.declared.refusal.Root.the-variants as root
+use Rattle.walk.proofs.Refused.{search-told}
 use Rattle.image.proofs.run_search.search.Statement.{statement}
 use Rattle.image.proofs.run_search.search.Tie as tie
 

@@ -13,25 +13,25 @@ use lib.Pow.{pow-pos}
 use Rattle.mapping.specs.Pages.{Rights, PageState, mapped}
 use Rattle.mapping.specs.Walk.{HoldsNothing, joined, spanPages, wordFor}
 use Rattle.paging.specs.Entry.{rightsOf, entryBy}
-use Rattle.paging.specs.Look.{seen}
 use Rattle.paging.specs.Memory.{segmentsIn, placeFrom, tableFrom, tableIn}
-use Rattle.paging.specs.Place.{placeOf}
 use Rattle.paging.specs.Packed.{rightsBits, rightsOver}
 use Rattle.paging.specs.Pages.{pagesBy}
 use Rattle.paging.specs.Progress.{GoesOn, Passes, Takes}
 use Rattle.paging.specs.Span.{after}
-use Rattle.paging.specs.declared.look.Look.{Look}
-use Rattle.paging.specs.declared.look.Look.the-variants as look
-use Rattle.paging.specs.declared.memory.Place.{Place}
-use Rattle.paging.specs.declared.memory.Place.the-variants as place
 use Rattle.paging.proofs.FourWords.{going-length}
-use Rattle.paging.proofs.Looks.{Sound, sound-entry}
 use Rattle.paging.proofs.Passing.{takes-length, reserved-length, outside-length, passes-absent, ends-absent, stops-reserved, stops-outside, passes-mapped, ends-mapped}
 use Rattle.paging.proofs.Places.{place-inside, place-reached}
 use Rattle.paging.proofs.Remembering.{marked-true}
 use Rattle.paging.proofs.RightsBits.{rights-step}
 use Rattle.paging.proofs.Spanning.{ahead-of}
-use Rattle.paging.proofs.Upper.{under-absent, under-reserved, under-leaf, under-outside, under-table}
+use Rattle.walk.specs.Look.{seen}
+use Rattle.walk.specs.Place.{placeOf}
+use Rattle.walk.specs.declared.look.Look.{Look}
+use Rattle.walk.specs.declared.look.Look.the-variants as look
+use Rattle.walk.specs.declared.memory.Place.{Place}
+use Rattle.walk.specs.declared.memory.Place.the-variants as place
+use Rattle.walk.proofs.Looks.{Sound, sound-entry}
+use Rattle.walk.proofs.Upper.{under-absent, under-reserved, under-leaf, under-outside, under-table}
 use Rattle.image.proofs.tables.step_at.Statement.{statement}
 use Rattle.image.proofs.tables.step_at.Tie as tie
 

@@ -8,7 +8,7 @@ use Rattle.answer.specs.Outcome.{gives}
 use Rattle.mapping.specs.Walk.{Walked, mapped}
 use Rattle.paging.specs.Packed.{Fits, rightsFrom}
 use Rattle.paging.specs.Translate.{translated}
-use Rattle.paging.proofs.Walked.{unpack}
+use Rattle.paging.proofs.Unpacking.{unpack}
 use Rattle.translation.proofs.translation.answer_for.Statement.{statement}
 use Rattle.translation.proofs.translation.answer_for.Tie as tie
 

@@ -14,12 +14,13 @@ use Rattle.addr.proofs.Item.{refused-unless}
 use Rattle.paging.specs.Entry.{entryBy}
 use Rattle.paging.specs.Memory.{Segment, placeFrom, reaching, segmentsIn, tableAt, Inside}
 use Rattle.paging.specs.Translate.{Translated, translated, imageRefusal, rootTable, pageNumber, translation}
-use Rattle.paging.specs.Root.{Placed, ImageAt}
-use Rattle.paging.specs.declared.refusal.Root.{Root}
-use Rattle.paging.specs.declared.refusal.Root.the-variants as root
 use Rattle.paging.proofs.Fields.{no-mask}
 use Rattle.paging.proofs.Places.{place-inside}
-use Rattle.paging.proofs.Refused.{image-told, root-placed}
+use Rattle.paging.proofs.OneSegment.{root-placed}
+use Rattle.walk.specs.Root.{Placed, ImageAt}
+use Rattle.walk.specs.declared.refusal.Root.{Root}
+use Rattle.walk.specs.declared.refusal.Root.the-variants as root
+use Rattle.walk.proofs.Refused.{image-told}
 use Rattle.translation.proofs.translation.translate.Statement.{statement}
 use Rattle.translation.proofs.translation.translate.Tie as tie
 

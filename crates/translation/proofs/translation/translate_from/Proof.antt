@@ -12,7 +12,7 @@ use Rattle.paging.specs.Entry.{entryBy}
 use Rattle.paging.specs.Memory.{segmentsIn, tableFrom, tableIn}
 use Rattle.paging.specs.Packed.{packed}
 use Rattle.paging.specs.Translate.{pageNumber}
-use Rattle.paging.proofs.Walked.{fits}
+use Rattle.walk.proofs.Walked.{fits}
 use Rattle.translation.proofs.translation.translate_from.Statement.{statement}
 use Rattle.translation.proofs.translation.translate_from.Tie as tie
 

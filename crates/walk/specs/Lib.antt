@@ -1,0 +1,4 @@
+pub mod Rights
+pub mod Look
+pub mod Place
+pub mod Root

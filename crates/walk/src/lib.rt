@@ -1,0 +1,30 @@
+// What every walk over the tables in lent words needs: entries, places of tables, and what refuses a root.
+mod entry;
+mod look;
+mod memory;
+mod numbers;
+mod refusal;
+mod rights;
+mod span;
+
+pub use entry::NO_MASK;
+pub use entry::frame_in;
+pub use entry::is_present;
+pub use look::Look;
+pub use look::look_word;
+pub use memory::Place;
+pub use memory::TABLE_WORDS;
+pub use memory::table_place;
+pub use numbers::levels;
+pub use numbers::page_count;
+pub use numbers::page_number;
+pub use refusal::Root;
+pub use refusal::image_place;
+pub use refusal::root_place;
+pub use refusal::search_place;
+pub use rights::ALL_RIGHTS;
+pub use rights::Rights;
+pub use rights::allows;
+pub use rights::rights_bits;
+pub use rights::rights_from;
+pub use span::within_span;
