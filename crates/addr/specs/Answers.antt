@@ -3,14 +3,8 @@ use Prim.Native.Nat.{ℕ}
 use Rattle.answer.specs.Outcome.{Outcome, gives, none, refuses}
 use Rattle.addr.specs.declared.virt_addr.VirtAnswer.{VirtAnswer}
 use Rattle.addr.specs.declared.virt_addr.VirtAnswer.the-variants as virt
-use Rattle.addr.specs.declared.phys_addr.PhysAnswer.{PhysAnswer}
-use Rattle.addr.specs.declared.phys_addr.PhysAnswer.the-variants as phys
 
 abbrev pub virtOf : VirtAnswer → Outcome ℕ
 virtOf (virt.Addr a) = gives (a .0)
 virtOf virt.None = none
 virtOf (virt.Refused k) = refuses k
-
-abbrev pub physOf : PhysAnswer → Outcome ℕ
-physOf (phys.Addr a) = gives (a .0)
-physOf (phys.Refused k) = refuses k

@@ -1,11 +1,10 @@
 // Virtual addresses. `Width` has the operations for either width; the source's names are at 48 bits.
-use crate::align::is_power_of_two;
-use crate::align::padding;
-use crate::align::rest;
 use crate::width::Width;
+use align::align_down;
+use align::align_up;
+use align::is_aligned;
 use answer::BoolAnswer;
 use answer::NOT_CANONICAL;
-use answer::NOT_POWER_OF_TWO;
 use answer::OVERFLOW;
 use answer::RESULT_NOT_CANONICAL;
 use answer::U64Answer;
@@ -14,13 +13,13 @@ use table::OffsetAnswer;
 use table::PageOffset;
 use table::PageTableLevel;
 ghost use mathlib.Core.Path.{_≡_};
-ghost use Rattle.laws.specs.Width.{signExtend};
 ghost use Rattle.answer.specs.Answers.{u64Of, boolOf};
+ghost use Rattle.laws.specs.Width.{signExtend};
+ghost use Rattle.laws.specs.Address.{virt, address, isNull, isAligned, plus, minus, distance, alignDownVirt, alignUpVirt, forwardFrom, backwardFrom, stepsBetween, pageOffset, tableIndex};
 ghost use Rattle.table.specs.Answers.{indexOf, offsetOf};
 ghost use Rattle.table.specs.Level.{levelOf};
 ghost use Rattle.addr.specs.Answers.{virtOf};
 ghost use Rattle.addr.specs.Widths.{widthOf};
-ghost use Rattle.addr.specs.Address.{virt, address, isNull, isAligned, plus, minus, distance, alignDownVirt, alignUpVirt, forwardFrom, backwardFrom, stepsBetween, pageOffset, tableIndex};
 
 pub struct VirtAddr(pub u64);
 
@@ -75,11 +74,11 @@ impl Width {
         if !self.is_canonical(a) {
             return VirtAnswer::Refused(NOT_CANONICAL);
         }
-        if !is_power_of_two(align) {
-            return VirtAnswer::Refused(NOT_POWER_OF_TWO);
+        match align_down(a, align) {
+            U64Answer::Value(below) => VirtAnswer::Addr(VirtAddr(self.truncate(below))),
+            U64Answer::None => VirtAnswer::None,
+            U64Answer::Refused(number) => VirtAnswer::Refused(number),
         }
-        let below = a - rest(a, align);
-        VirtAnswer::Addr(VirtAddr(self.truncate(below)))
     }
 
     // The multiple of the alignment at or above the address, sign-extended; 4 if the alignment is no
@@ -91,16 +90,11 @@ impl Width {
         if !self.is_canonical(a) {
             return VirtAnswer::Refused(NOT_CANONICAL);
         }
-        if !is_power_of_two(align) {
-            return VirtAnswer::Refused(NOT_POWER_OF_TWO);
+        match align_up(a, align) {
+            U64Answer::Value(above) => VirtAnswer::Addr(VirtAddr(self.truncate(above))),
+            U64Answer::None => VirtAnswer::None,
+            U64Answer::Refused(number) => VirtAnswer::Refused(number),
         }
-        let more = padding(a, align);
-        if u64::MAX - a < more {
-            return VirtAnswer::Refused(OVERFLOW);
-        }
-        let above = a + more;
-        let extended = self.truncate(above);
-        VirtAnswer::Addr(VirtAddr(extended))
     }
 
     // Whether the address is a multiple of the alignment; 4 if that is no power of two.
@@ -111,10 +105,7 @@ impl Width {
         if !self.is_canonical(a) {
             return BoolAnswer::Refused(NOT_CANONICAL);
         }
-        if !is_power_of_two(align) {
-            return BoolAnswer::Refused(NOT_POWER_OF_TWO);
-        }
-        BoolAnswer::Value(rest(a, align) == 0)
+        is_aligned(a, align)
     }
 
     // The address count bytes on, by the numbers; 5 beyond 64 bits, 6 if it isn't

@@ -10,7 +10,7 @@ use Rattle.laws.specs.Steps.{forward, steps}
 use Rattle.laws.specs.Run.{run, lenBelow, lenThrough, pagesBelow, pagesThrough}
 use Rattle.laws.specs.Draw.{gapFrontBelow, gapFrontThrough, gapBackBelow, gapBackThrough}
 use Rattle.laws.proofs.Align.{one-bit}
-use Rattle.addr.specs.Item.{itemRefusal, itemsRefusal}
+use Rattle.laws.specs.Item.{itemRefusal, itemsRefusal}
 use Rattle.page.specs.Range.{pageAnswer, nthOf, nthBackOf, nthInclusiveOf, nthBackInclusiveOf}
 use Rattle.cases.specs.Table.{Table}
 

@@ -4,10 +4,10 @@ use Prim.Native.Nat.{ℕ, _-_, _^_}
 use mathlib.Core.Path.{_≡_}
 use Rattle.answer.specs.Outcome.{gives, none, refuses}
 use Rattle.laws.specs.Width.{signExtend}
-use Rattle.addr.specs.Address.{virt, plus, alignUpVirt, forwardFrom, stepsBetween, tableIndex, pageOffset}
+use Rattle.laws.specs.Address.{virt, plus, alignUpVirt, forwardFrom, stepsBetween, tableIndex, pageOffset}
 use Rattle.table.specs.declared.size.PageSize.the-variants.{Size4KiB}
-use Rattle.addr.specs.Item.{item}
-use Rattle.addr.specs.Range.{countBelow, countThrough}
+use Rattle.laws.specs.Item.{item}
+use Rattle.laws.specs.Range.{countBelow, countThrough}
 use Rattle.frame.specs.Frame.{pfnOf, fromPfn}
 use Rattle.page.specs.Range.{pageAt, nthOf, nthBackOf, nthInclusiveOf, nthBackInclusiveOf}
 use Rattle.page.specs.declared.page.Page as code

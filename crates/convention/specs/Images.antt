@@ -7,7 +7,7 @@ use mathlib.Core.Option.{Option, none, some}
 use lib.Dec.{leb}
 use lib.ListN.{length}
 use Rattle.answer.specs.Outcome.{Outcome}
-use Rattle.addr.specs.Item.{Item}
+use Rattle.laws.specs.Item.{Item}
 use Rattle.paging.specs.Translate.{Translated, translatedWords}
 use Rattle.paging.specs.Search.{Report, reportWords}
 use Rattle.paging.specs.List.{Listed, Listing, Remembered}

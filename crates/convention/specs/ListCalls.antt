@@ -7,7 +7,7 @@ use mathlib.Core.Option.{none, some}
 use lib.Dec.{eqb}
 use lib.ListN.{length, getD}
 use Rattle.answer.specs.Outcome.{gives, refuses}
-use Rattle.addr.specs.Item.{item}
+use Rattle.laws.specs.Item.{item}
 use Rattle.paging.specs.Translate.{imageRefusal}
 use Rattle.paging.specs.List.{Listing, listing}
 use Rattle.paging.specs.ListAgreement.{ChainsAgree}

@@ -2,7 +2,7 @@
 use Prim.Native.Nat.{ℕ}
 use mathlib.Core.List.{List, [], _∷_}
 use Rattle.answer.specs.Outcome.{Outcome, gives, refuses}
-use Rattle.addr.specs.Range.{Ends}
+use Rattle.laws.specs.Range.{Ends}
 use Rattle.frame.specs.declared.frame.FrameAnswer.{FrameAnswer}
 use Rattle.frame.specs.declared.frame.FrameAnswer.the-variants as frame
 use Rattle.page.specs.declared.page.PageAnswer.{PageAnswer}

@@ -1,5 +1,4 @@
 // The closed choices, by their numbers, and the pages, frames and ranges that are read with them.
-use addr::PhysAddr;
 use addr::VirtAddr;
 use frame::PhysFrame;
 use frame::PhysFrameRange;
@@ -7,6 +6,7 @@ use frame::PhysFrameRangeInclusive;
 use page::Page;
 use page::PageRange;
 use page::PageRangeInclusive;
+use phys::PhysAddr;
 use table::LevelAnswer;
 use table::PageSize;
 use table::PageTableLevel;

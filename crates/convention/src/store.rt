@@ -1,10 +1,10 @@
 // Answers, stored: each gives its status, and its words at the start of the lent slice.
-use addr::PhysAnswer;
 use addr::VirtAnswer;
 use answer::BoolAnswer;
 use answer::U64Answer;
 use frame::FrameAnswer;
 use page::PageAnswer;
+use phys::PhysAnswer;
 use status::NONE;
 use status::give;
 use table::IndexAnswer;
@@ -13,7 +13,8 @@ use table::OffsetAnswer;
 ghost use mathlib.Core.Path.{_≡_};
 ghost use Rattle.answer.specs.Answers.{u64Of, boolOf};
 ghost use Rattle.table.specs.Answers.{indexOf, offsetOf, levelAnswerOf};
-ghost use Rattle.addr.specs.Answers.{virtOf, physOf};
+ghost use Rattle.phys.specs.Answers.{physOf};
+ghost use Rattle.addr.specs.Answers.{virtOf};
 ghost use Rattle.frame.specs.Frame.{frameOf};
 ghost use Rattle.page.specs.Page.{pageOf};
 ghost use Rattle.status.specs.Convention.{left, leaves, word, truth};

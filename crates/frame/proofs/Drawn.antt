@@ -22,7 +22,7 @@ use Rattle.laws.proofs.OneByOne.{Settled, settled as settled-is, one-by-one}
 use Rattle.table.specs.Level.{powerOf}
 use Rattle.table.proofs.Sizes.{bounds}
 use Rattle.table.specs.declared.size.PageSize.{PageSize}
-use Rattle.addr.specs.Item.{firstRefusal, itemRefusal, itemsRefusal}
+use Rattle.laws.specs.Item.{firstRefusal, itemRefusal, itemsRefusal}
 use Rattle.frame.specs.Frame.{start, bytes}
 use Rattle.frame.specs.Range.{frameAt, frameAnswer, topFrame, itemIn, refusal, leavesMemory, frames, drawnBelow, drawnThrough, nthOf, nthBackOf, nthInclusiveOf, nthBackInclusiveOf, framesOf, framesInclusiveOf, accepted, acceptedInclusive, empty, emptyInclusive, len, lenInclusive, nthFrom, nthInclusiveFrom, nextFrom, nextInclusiveFrom}
 use Rattle.frame.specs.declared.frame.PhysFrame.{PhysFrame}

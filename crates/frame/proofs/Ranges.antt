@@ -13,9 +13,9 @@ use Rattle.laws.proofs.Align.{under-top}
 use Rattle.laws.proofs.Draw.{front-below-start, back-below-under, front-through-under, front-through-start, front-through-end, back-through-start, back-through-end}
 use Rattle.table.specs.Level.{powerOf}
 use Rattle.table.proofs.Sizes.{bounds}
-use Rattle.addr.specs.Address.{phys}
-use Rattle.addr.specs.Item.{firstRefusal}
-use Rattle.addr.proofs.Item.{phys-argument, item-passed, items-passed, first-refused}
+use Rattle.laws.specs.Address.{phys}
+use Rattle.laws.specs.Item.{firstRefusal}
+use Rattle.laws.proofs.Item.{phys-argument, item-passed, items-passed, first-refused}
 use Rattle.frame.specs.Frame.{start, bytes}
 use Rattle.frame.specs.Range.{frameAt, frameAnswer, topFrame, refusal, leavesMemory, frames, drawnBelow, drawnThrough, framesDrawn, nthOf, nthBackOf, nthInclusiveOf, nthBackInclusiveOf}
 use Rattle.frame.specs.declared.frame.FrameAnswer.{FrameAnswer}

@@ -4,8 +4,8 @@ use lib.Dec.{ltb}
 use Rattle.answer.specs.Outcome.{Outcome, gives, none, refuses, unless}
 use Rattle.answer.specs.Refusal.{pfnTooLarge}
 use Rattle.table.specs.Level.{bytesOf}
-use Rattle.addr.specs.Address.{phys, physSize}
-use Rattle.addr.specs.Item.{Item, item, givenItem}
+use Rattle.laws.specs.Address.{phys, physSize}
+use Rattle.laws.specs.Item.{Item, item, givenItem}
 use Rattle.frame.specs.declared.frame.PhysFrame as frame
 use Rattle.frame.specs.declared.frame.FrameAnswer.{FrameAnswer}
 use Rattle.frame.specs.declared.frame.FrameAnswer.the-variants as answer

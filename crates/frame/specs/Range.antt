@@ -13,9 +13,9 @@ use Rattle.laws.specs.Draw as draw
 use Rattle.laws.specs.Drawing.{Side, front, back, Drawn}
 use Rattle.laws.specs.Kind.{Kind, drawn, drawnOf}
 use Rattle.table.specs.declared.size.PageSize.{PageSize}
-use Rattle.addr.specs.Address.{phys, physSize}
-use Rattle.addr.specs.Item.{item, firstRefusal, itemsRefusal}
-use Rattle.addr.specs.Range.{Ends, ends}
+use Rattle.laws.specs.Address.{phys, physSize}
+use Rattle.laws.specs.Item.{item, firstRefusal, itemsRefusal}
+use Rattle.laws.specs.Range.{Ends, ends}
 use Rattle.frame.specs.Frame.{start, bytes}
 use Rattle.frame.specs.declared.frame.PhysFrame.{PhysFrame}
 use Rattle.frame.specs.declared.frame.FrameAnswer.{FrameAnswer}

@@ -1,9 +1,9 @@
 // Frames from what is drawn on numbers.
 use crate::frame::FrameAnswer;
 use crate::frame::PhysFrame;
-use addr::PHYS_SIZE;
-use addr::PhysAddr;
 use draw::Item;
+use phys::PHYS_SIZE;
+use phys::PhysAddr;
 use table::PageSize;
 ghost use mathlib.Core.Path.{_≡_};
 ghost use Rattle.table.specs.Level.{bytesOf};

@@ -1,7 +1,4 @@
 // A physical frame.
-use addr::PHYS_SIZE;
-use addr::PhysAddr;
-use addr::PhysAnswer;
 use answer::NOT_ALIGNED;
 use answer::NOT_PHYSICAL;
 use answer::OVERFLOW;
@@ -9,13 +6,16 @@ use answer::PFN_TOO_LARGE;
 use answer::RESULT_NOT_PHYSICAL;
 use answer::SIZES_DIFFER;
 use answer::U64Answer;
+use phys::PHYS_SIZE;
+use phys::PhysAddr;
+use phys::PhysAnswer;
 use table::PageSize;
 ghost use mathlib.Core.Path.{_≡_};
 ghost use Rattle.answer.specs.Answers.{u64Of};
 ghost use Rattle.table.specs.Level.{bytesOf};
-ghost use Rattle.addr.specs.Answers.{physOf};
-ghost use Rattle.addr.specs.Address.{phys};
-ghost use Rattle.addr.specs.Item.{itemRefusal, itemsRefusal, fromStart, containing, startOf, sizeOf, plusItem, minusItem, distanceItem};
+ghost use Rattle.phys.specs.Answers.{physOf};
+ghost use Rattle.laws.specs.Address.{phys};
+ghost use Rattle.laws.specs.Item.{itemRefusal, itemsRefusal, fromStart, containing, startOf, sizeOf, plusItem, minusItem, distanceItem};
 ghost use Rattle.frame.specs.Frame.{start, bytes, frameOf, fromPfn, pfnOf};
 
 pub struct PhysFrame {

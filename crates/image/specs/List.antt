@@ -6,7 +6,7 @@ use mathlib.Core.Path.{_≡_}
 use lib.ListN.{take, drop}
 use Rattle.answer.specs.Outcome.{Outcome, gives, refuses}
 use Rattle.mapping.specs.Search.{Answer}
-use Rattle.addr.specs.Item.{item}
+use Rattle.laws.specs.Item.{item}
 use Rattle.page.specs.Page as page
 use Rattle.paging.specs.List.{Listed, Listing}
 use Rattle.paging.specs.Search.{report, reportWords, answerWords}

@@ -1,7 +1,7 @@
 -- What the cases of the code's answers stand for: the run search.
 use Rattle.answer.specs.Outcome.{Outcome, gives, refuses}
 use Rattle.mapping.specs.Pages.{Reason, reserved, outside}
-use Rattle.addr.specs.Item.{item}
+use Rattle.laws.specs.Item.{item}
 use Rattle.frame.specs.Frame as frame
 use Rattle.page.specs.Page as page
 use Rattle.paging.specs.Search.{Report, end, stop, run}

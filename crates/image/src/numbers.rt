@@ -1,13 +1,13 @@
 // Pages and frames by their numbers, at a width.
-use addr::PhysAddr;
 use addr::VirtAddr;
 use addr::Width;
 use frame::PhysFrame;
 use page::Page;
+use phys::PhysAddr;
 use table::PageSize;
 ghost use mathlib.Core.Path.{_≡_};
 ghost use Prim.Native.Nat.{_<_, _^_};
-ghost use Rattle.addr.specs.Item.{item};
+ghost use Rattle.laws.specs.Item.{item};
 ghost use Rattle.addr.specs.Widths.{widthOf};
 ghost use Rattle.frame.specs.Frame.{start as Frame·start, bytes as Frame·bytes};
 ghost use Rattle.page.specs.Page.{start as Page·start, bytes as Page·bytes};

@@ -1,6 +1,7 @@
 -- Laws of alignment: powers of two by their count of ones, the multiples on both sides of a number, and the mask that finds them.
 use mathlib.Core.Path.{_≡_, refl, sym, ap, _∙_}
 use mathlib.Core.Logic.{_↔_}
+use mathlib.Core.Bool.{Bool, true, false}
 use Prim.Native.Nat.{ℕ, zero, suc, _+_, _-_, _*_, _/_, _%_, _^_, _≤_, _<_}
 use native.Mathlib.Omega.{arith}
 use native.Mathlib.Decide.{decLt}
@@ -9,7 +10,10 @@ use lib.Arith.{bin-ind}
 use lib.Bits.{bitAnd, and-mask}
 use lib.Count.{ones, ones-step, ones-cat}
 use lib.Pow.{pow-pos, pow-mono, pow-add}
-use Rattle.laws.specs.Align.{down, up}
+use borrow.Author.Tests.{eqb-true, lt-ltb}
+use Rattle.answer.specs.Outcome.{gives, unless}
+use Rattle.answer.specs.Refusal.{notPowerOfTwo}
+use Rattle.laws.specs.Align.{powerOfTwo, down, up, alignUp}
 use Rattle.laws.proofs.Cases.{by-cases}
 
 abbrev pub Power : ℕ → Type 0
@@ -87,15 +91,30 @@ module _ (n a : ℕ) (p : 0 < n) where
 pub blocks : (k m : ℕ) → k ≤ m → 2 ^ (m - k) * 2 ^ k ≡ 2 ^ m
 blocks k m h = let e : m - k + k ≡ m = omega arith in let q : 2 ^ (m - k + k) ≡ 2 ^ (m - k) * 2 ^ k = pow-add 2 (m - k) k in sym (rw e at q)
 
--- rounded up to a power of two, a 64-bit number is at most 2^64
-pub up-top : (n a : ℕ) → ones n ≡ 1 → n < 2 ^ 64 → a < 2 ^ 64 → up n a ≤ 2 ^ 64
-up-top n a e f h = go (one→power n e)
+-- rounded up to a power of two, a number is at most the larger power that it is at most
+pub up-within : (m n a : ℕ) → ones n ≡ 1 → n < 2 ^ suc m → a ≤ 2 ^ m → up n a ≤ 2 ^ m
+up-within m n a e f h = go (one→power n e)
   where
-    go : Power n → up n a ≤ 2 ^ 64
+    go : Power n → up n a ≤ 2 ^ m
     go (k, q) =
-        let l : k < 64 = by-cases (decLt k 64) (λ l. l) (λ m. absurd (omega (arith, pow-mono {i = 64} {j = k} (omega arith)))) in
-        let m : 2 ^ 64 ≡ 2 ^ (64 - k) * n = rw (← q) at (sym (blocks k 64 (omega arith))) in
-        rw m (up-least n a (one-bit-pos n e) .2 (2 ^ (64 - k)) (omega arith))
+        let l : k < suc m = by-cases (decLt k (suc m)) (λ l. l) (λ o. absurd (omega (arith, pow-mono {i = suc m} {j = k} (omega arith)))) in
+        let b : 2 ^ m ≡ 2 ^ (m - k) * n = rw (← q) at (sym (blocks k m (omega arith))) in
+        rw b (up-least n a (one-bit-pos n e) .2 (2 ^ (m - k)) (omega arith))
+
+-- so a 64-bit number is at most 2^64, and one below 2^63 stays below 2^64
+pub up-top : (n a : ℕ) → ones n ≡ 1 → n < 2 ^ 64 → a < 2 ^ 64 → up n a ≤ 2 ^ 64
+up-top n a e f h = up-within 64 n a e (omega arith) (omega arith)
+
+pub up-fits : (n a : ℕ) → ones n ≡ 1 → n < 2 ^ 64 → a < 2 ^ 63 → up n a < 2 ^ 64
+up-fits n a e f h = omega (arith, up-within 63 n a e (omega arith) (omega arith))
+
+-- of which nothing but the alignment is refused
+pub up-given : (n a : ℕ) → n < 2 ^ 64 → a < 2 ^ 63 → alignUp a n ≡ unless notPowerOfTwo (powerOfTwo n) (gives (up n a))
+up-given n a f h = go (powerOfTwo n) refl
+  where
+    go : (t : Bool) → powerOfTwo n ≡ t → alignUp a n ≡ unless notPowerOfTwo (powerOfTwo n) (gives (up n a))
+    go true e = simp (e, lt-ltb (up n a) (2 ^ 64) (up-fits n a (eqb-true (ones n) 1 e) f h))
+    go false e = simp e
 
 -- whether `n` times `z` is within a bound, by the quotient of the bound
 pub times-past : (n z m : ℕ) → 0 < z → m / z < n → m < n * z

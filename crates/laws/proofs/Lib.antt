@@ -18,3 +18,5 @@ pub mod Drawing
 pub mod OneByOne
 pub mod Kind
 pub mod Ranges
+pub mod Item
+pub mod Fold

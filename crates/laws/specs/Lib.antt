@@ -7,3 +7,6 @@ pub mod Run
 pub mod Draw
 pub mod Drawing
 pub mod Kind
+pub mod Address
+pub mod Item
+pub mod Range

@@ -28,7 +28,7 @@ use Rattle.table.specs.Level.{powerOf}
 use Rattle.table.specs.declared.size.PageSize.{PageSize}
 use Rattle.table.proofs.Sizes.{bounds}
 use Rattle.addr.specs.Widths.{widthOf}
-use Rattle.addr.specs.Item.{firstRefusal, itemRefusal, itemsRefusal}
+use Rattle.laws.specs.Item.{firstRefusal, itemRefusal, itemsRefusal}
 use Rattle.addr.specs.declared.width.Width.{Width}
 use Rattle.addr.proofs.Widths.{widths}
 use Rattle.page_draw.specs.Draws.{topPage}

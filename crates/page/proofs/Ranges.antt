@@ -16,7 +16,7 @@ use Rattle.laws.proofs.Cases.{by-cases}
 use Rattle.laws.specs.Draw as draw
 use Rattle.laws.specs.Kind.{drawn}
 use Rattle.laws.proofs.Gap.{front-below, back-below, front-through, back-through}
-use Rattle.addr.specs.Item.{firstRefusal}
+use Rattle.laws.specs.Item.{firstRefusal}
 use Rattle.addr.specs.Widths.{widthOf}
 use Rattle.addr.specs.declared.width.Width.{Width}
 use Rattle.page_draw.specs.Draws.{topPage, GuardedDraw, guarded, nthBelow, nthBackBelow, nthThrough, nthBackThrough}

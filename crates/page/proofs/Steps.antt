@@ -5,9 +5,9 @@ use Rattle.answer.specs.Outcome.{Outcome, gives, none, andThen}
 use Rattle.laws.specs.Width.{low, signExtend}
 use Rattle.laws.specs.Steps.{forward, backward, steps}
 use Rattle.laws.proofs.Steps.{forward-in, forward-out, backward-in, backward-out, steps-in, steps-out}
-use Rattle.addr.specs.Address.{virt}
-use Rattle.addr.specs.Item.{Item, item, itemRefusal, itemsRefusal}
-use Rattle.addr.proofs.Item.{item-given, items-given}
+use Rattle.laws.specs.Address.{virt}
+use Rattle.laws.specs.Item.{Item, item, itemRefusal, itemsRefusal}
+use Rattle.laws.proofs.Item.{item-given, items-given}
 use Rattle.page.specs.Page.{pageForward, pageBackward, pageSteps}
 
 module _ (w a z n : ℕ) (r : itemRefusal (virt w) a z ≡ 0) where

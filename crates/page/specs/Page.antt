@@ -10,8 +10,8 @@ use Rattle.laws.specs.Steps.{forward, backward, steps}
 use Rattle.laws.specs.Index.{span, index, assemble}
 use Rattle.table.specs.Index.{givenIndex}
 use Rattle.table.specs.Level.{bytesOf}
-use Rattle.addr.specs.Address.{virt}
-use Rattle.addr.specs.Item.{Item, item, givenItem, givenItems}
+use Rattle.laws.specs.Address.{virt}
+use Rattle.laws.specs.Item.{Item, item, givenItem, givenItems}
 use Rattle.page.specs.declared.page.Page as page
 use Rattle.page.specs.declared.page.PageAnswer.{PageAnswer}
 use Rattle.page.specs.declared.page.PageAnswer.the-variants as answer

@@ -14,9 +14,9 @@ use Rattle.laws.specs.Draw as draw
 use Rattle.laws.specs.Drawing.{Side, front, back, Drawn}
 use Rattle.laws.specs.Kind.{Kind, drawn, drawnOf}
 use Rattle.table.specs.declared.size.PageSize.{PageSize}
-use Rattle.addr.specs.Address.{virt}
-use Rattle.addr.specs.Item.{item, firstRefusal, givenItems, itemsRefusal}
-use Rattle.addr.specs.Range.{Ends, ends}
+use Rattle.laws.specs.Address.{virt}
+use Rattle.laws.specs.Item.{item, firstRefusal, givenItems, itemsRefusal}
+use Rattle.laws.specs.Range.{Ends, ends}
 use Rattle.page_draw.specs.Draws.{GuardedDraw, nthBelow, nthBackBelow, nthThrough, nthBackThrough}
 use Rattle.page.specs.Page.{start, bytes}
 use Rattle.page.specs.declared.page.Page.{Page}

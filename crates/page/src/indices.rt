@@ -13,7 +13,7 @@ ghost use Rattle.answer.specs.Outcome.{gives};
 ghost use Rattle.laws.specs.Width.{signExtend};
 ghost use Rattle.laws.specs.Index.{assemble};
 ghost use Rattle.table.specs.Level.{bytesOf};
-ghost use Rattle.addr.specs.Item.{item};
+ghost use Rattle.laws.specs.Item.{item};
 ghost use Rattle.page.specs.Page.{pageOf, indices, fromIndices, fromIndices2MiB, fromIndices1GiB};
 
 // The address with these indices, before sign extension.

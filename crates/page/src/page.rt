@@ -14,8 +14,8 @@ ghost use Rattle.answer.specs.Answers.{u64Of};
 ghost use Rattle.table.specs.Answers.{indexOf};
 ghost use Rattle.table.specs.Level.{levelOf, bytesOf};
 ghost use Rattle.addr.specs.Answers.{virtOf};
-ghost use Rattle.addr.specs.Address.{virt};
-ghost use Rattle.addr.specs.Item.{fromStart, containing, startOf, sizeOf, plusItem, minusItem, distanceItem};
+ghost use Rattle.laws.specs.Address.{virt};
+ghost use Rattle.laws.specs.Item.{fromStart, containing, startOf, sizeOf, plusItem, minusItem, distanceItem};
 ghost use Rattle.page.specs.Page.{start, start as Page·start, bytes, pageOf, pageIndex, ownIndex, fromIndices, fromIndices2MiB, fromIndices1GiB, pageForward, pageBackward, pageSteps};
 
 pub struct Page {

@@ -12,8 +12,8 @@ use draw::len_below;
 use table::PageSize;
 ghost use mathlib.Core.Path.{_≡_};
 ghost use Rattle.answer.specs.Answers.{u64Of, boolOf};
-ghost use Rattle.addr.specs.Address.{virt};
-ghost use Rattle.addr.specs.Range.{makeRange, emptyBelow, countBelow, bytesBelow};
+ghost use Rattle.laws.specs.Address.{virt};
+ghost use Rattle.laws.specs.Range.{makeRange, emptyBelow, countBelow, bytesBelow};
 ghost use Rattle.page.specs.Page.{start, start as Page·start, bytes};
 ghost use Rattle.page.specs.Range.{rangeOf, nthOf, nthBackOf, as4KiB};
 

@@ -11,8 +11,8 @@ use draw::len_through;
 use page_draw::top_page;
 ghost use mathlib.Core.Path.{_≡_};
 ghost use Rattle.answer.specs.Answers.{u64Of, boolOf};
-ghost use Rattle.addr.specs.Address.{virt};
-ghost use Rattle.addr.specs.Range.{makeRange, emptyThrough, countThrough, bytesThrough};
+ghost use Rattle.laws.specs.Address.{virt};
+ghost use Rattle.laws.specs.Range.{makeRange, emptyThrough, countThrough, bytesThrough};
 ghost use Rattle.page.specs.Page.{start, start as Page·start, bytes};
 ghost use Rattle.page.specs.Range.{rangeInclusiveOf, nthInclusiveOf, nthBackInclusiveOf};
 

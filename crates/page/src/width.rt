@@ -18,8 +18,8 @@ ghost use Rattle.table.specs.Answers.{indexOf};
 ghost use Rattle.table.specs.Level.{levelOf, bytesOf};
 ghost use Rattle.addr.specs.Answers.{virtOf};
 ghost use Rattle.addr.specs.Widths.{widthOf};
-ghost use Rattle.addr.specs.Address.{virt};
-ghost use Rattle.addr.specs.Item.{itemRefusal, itemsRefusal, fromStart, containing, startOf, sizeOf, plusItem, minusItem, distanceItem};
+ghost use Rattle.laws.specs.Address.{virt};
+ghost use Rattle.laws.specs.Item.{itemRefusal, itemsRefusal, fromStart, containing, startOf, sizeOf, plusItem, minusItem, distanceItem};
 ghost use Rattle.page.specs.Page.{start, bytes, pageOf, pageIndex, ownIndex, pageForward, pageBackward, pageSteps};
 
 // The number that refuses a page handed in: 1, then 3; 0 for none.

@@ -12,12 +12,12 @@ use Rattle.laws.proofs.Gap.{PageEnds, page-ends}
 use Rattle.table.specs.Level.{powerOf, bytesOf}
 use Rattle.table.specs.declared.size.PageSize.{PageSize}
 use Rattle.table.proofs.Sizes.{bounds}
-use Rattle.addr.specs.Address.{virt}
-use Rattle.addr.specs.Item.{itemsRefusal}
+use Rattle.laws.specs.Address.{virt}
+use Rattle.laws.specs.Item.{itemsRefusal}
 use Rattle.addr.specs.Widths.{widthOf}
 use Rattle.addr.specs.declared.width.Width.{Width}
 use Rattle.addr.specs.declared.width.Width.the-variants.{Bits48, Bits57}
-use Rattle.addr.proofs.Item.{virt-argument, item-passed, items-passed}
+use Rattle.laws.proofs.Item.{virt-argument, item-passed, items-passed}
 use Rattle.addr.proofs.Widths.{widths}
 use Rattle.page_draw.specs.Draws.{topPage}
 

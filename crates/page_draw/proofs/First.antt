@@ -15,8 +15,8 @@ use Rattle.laws.proofs.Next as laws
 use Rattle.table.specs.Level.{powerOf, bytesOf}
 use Rattle.table.specs.declared.size.PageSize.{PageSize}
 use Rattle.table.proofs.Sizes.{bounds}
-use Rattle.addr.specs.Address.{virt}
-use Rattle.addr.specs.Item.{itemsRefusal}
+use Rattle.laws.specs.Address.{virt}
+use Rattle.laws.specs.Item.{itemsRefusal}
 use Rattle.addr.specs.Widths.{widthOf}
 use Rattle.addr.specs.declared.width.Width.{Width}
 use Rattle.addr.proofs.Widths.{widths}

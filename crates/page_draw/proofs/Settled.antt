@@ -8,11 +8,11 @@ use Rattle.laws.specs.Run.{below, through, pagesBelow, pagesThrough}
 use Rattle.laws.proofs.Gap.{front-below, back-below, front-through, back-through}
 use Rattle.table.specs.Level.{bytesOf}
 use Rattle.table.specs.declared.size.PageSize.{PageSize}
-use Rattle.addr.specs.Address.{virt}
-use Rattle.addr.specs.Item.{itemsRefusal}
+use Rattle.laws.specs.Address.{virt}
+use Rattle.laws.specs.Item.{itemsRefusal}
 use Rattle.addr.specs.Widths.{widthOf}
 use Rattle.addr.specs.declared.width.Width.{Width}
-use Rattle.addr.proofs.Item.{first-refused, refused-unless}
+use Rattle.laws.proofs.Item.{first-refused, refused-unless}
 use Rattle.page_draw.specs.Draws.{topPage, drawRefusal, guarded, nthBelow, nthBackBelow, nthThrough, nthBackThrough}
 use Rattle.page_draw.proofs.Accepted.{accepted}
 

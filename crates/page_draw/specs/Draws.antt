@@ -6,8 +6,8 @@ use Rattle.answer.specs.Outcome.{Outcome, gives, refuses, unlessRefused}
 use Rattle.answer.specs.Refusal.{drawMeetsGap}
 use Rattle.laws.specs.Draw as draw
 use Rattle.laws.specs.Run.{pagesBelow, pagesThrough}
-use Rattle.addr.specs.Address.{virt}
-use Rattle.addr.specs.Item.{firstRefusal, itemsRefusal}
+use Rattle.laws.specs.Address.{virt}
+use Rattle.laws.specs.Item.{firstRefusal, itemsRefusal}
 use Rattle.draw.specs.Draws.{drawOf}
 use Rattle.page_draw.specs.declared.nth.PagesDraw.{PagesDraw}
 use Rattle.page_draw.specs.declared.nth.PagesDraw.the-variants as answer

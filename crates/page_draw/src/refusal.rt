@@ -6,8 +6,8 @@ use answer::SIZES_DIFFER;
 use table::PageSize;
 ghost use mathlib.Core.Path.{_≡_};
 ghost use Rattle.table.specs.Level.{bytesOf};
-ghost use Rattle.addr.specs.Address.{virt};
-ghost use Rattle.addr.specs.Item.{itemRefusal, itemsRefusal};
+ghost use Rattle.laws.specs.Address.{virt};
+ghost use Rattle.laws.specs.Item.{itemRefusal, itemsRefusal};
 ghost use Rattle.addr.specs.Widths.{widthOf};
 
 // The number that refuses a page handed in: 1, then 3; 0 for none.

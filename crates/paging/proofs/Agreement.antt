@@ -23,7 +23,7 @@ use Rattle.mapping.proofs.Found.{Found, no-more, at-stop, at-run, finds}
 use Rattle.mapping.proofs.Walk.{walk-low, spanned}
 use Rattle.mapping.proofs.Calls.{Searching, agreement}
 use Rattle.mapping.proofs.PageNumbers.{number-of, number-back, page-numbers}
-use Rattle.addr.specs.Item.{Item, itemRefusal}
+use Rattle.laws.specs.Item.{Item, itemRefusal}
 use Rattle.paging.specs.Entry.{entry}
 use Rattle.paging.specs.Memory.{tableAt}
 use Rattle.paging.specs.Translate.{translated, imageRefusal, rootTable, pageNumber, translation}

@@ -21,7 +21,7 @@ use Rattle.mapping.specs.Agreement.{Calls}
 use Rattle.mapping.specs.Agreement as calls
 use Rattle.mapping.proofs.Some.{some-searches, at-most, all-there, join}
 use Rattle.mapping.proofs.PageNumbers.{number-back}
-use Rattle.addr.specs.Item.{Item}
+use Rattle.laws.specs.Item.{Item}
 use Rattle.addr.specs.declared.width.Width.the-variants.{Bits48}
 use Rattle.addr.proofs.Widths.{widths}
 use Rattle.paging.specs.Translate.{imageRefusal, rootTable}

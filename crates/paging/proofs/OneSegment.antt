@@ -6,8 +6,8 @@ use mathlib.Core.Option.{Option, none, some}
 use native.Mathlib.Omega.{arith}
 use lib.ListN.{length}
 use Rattle.mapping.specs.Walk.{Entry, walkedPages}
-use Rattle.addr.specs.Address.{phys}
-use Rattle.addr.specs.Item.{itemRefusal, firstRefusal}
+use Rattle.laws.specs.Address.{phys}
+use Rattle.laws.specs.Item.{itemRefusal, firstRefusal}
 use Rattle.paging.specs.Entry.{entryBy}
 use Rattle.paging.specs.Memory.{Segment, placeFrom, reaching, segmentsIn, tableAt, tableFrom, tableWhere, tableWords}
 use Rattle.paging.specs.Translate.{outsideRefusal, rootRefusal, imageRefusal, rootTable}

@@ -13,7 +13,7 @@ use Rattle.mapping.specs.Search.{Answer}
 use Rattle.mapping.specs.Search as search
 use Rattle.mapping.specs.Agreement.{Calls, Agreement}
 use Rattle.mapping.specs.Walk.{spanPages, spaceOf}
-use Rattle.addr.specs.Item.{Item}
+use Rattle.laws.specs.Item.{Item}
 use Rattle.paging.specs.Translate.{Translated, mapped, absent, broken, imageRefusal, translation}
 use Rattle.paging.specs.Search.{Report, end, stop, run, searching}
 

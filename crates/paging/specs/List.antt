@@ -10,7 +10,7 @@ use Rattle.answer.specs.Outcome.{Outcome, gives, refuses, unlessRefused}
 use Rattle.answer.specs.Outcome as outcome
 use Rattle.mapping.specs.Pages.{Space}
 use Rattle.mapping.specs.Search.{answersFrom, leftAfter}
-use Rattle.addr.specs.Item.{Item}
+use Rattle.laws.specs.Item.{Item}
 use Rattle.paging.specs.EmptyTables.{TrueOf}
 use Rattle.paging.specs.Entry.{entry}
 use Rattle.paging.specs.Memory.{tableAt}

@@ -8,7 +8,7 @@ use lib.ListN.{take}
 use Rattle.answer.specs.Outcome.{gives}
 use Rattle.mapping.specs.Agreement.{Calls, Agreement}
 use Rattle.mapping.specs.Walk.{spanPages}
-use Rattle.addr.specs.Item.{Item}
+use Rattle.laws.specs.Item.{Item}
 use Rattle.paging.specs.Translate.{imageRefusal}
 use Rattle.paging.specs.Search.{Report, answerWords}
 use Rattle.paging.specs.List.{Listed, Listing, allWords, room, listing}

@@ -8,8 +8,8 @@ use Rattle.mapping.specs.Pages.{Rights, Reason, reserved, outside, Space}
 use Rattle.mapping.specs.Search.{Answer, search}
 use Rattle.mapping.specs.Search as found
 use Rattle.mapping.specs.Walk.{walkedPages}
-use Rattle.addr.specs.Address.{virt}
-use Rattle.addr.specs.Item.{Item, item, itemRefusal, firstRefusal}
+use Rattle.laws.specs.Address.{virt}
+use Rattle.laws.specs.Item.{Item, item, itemRefusal, firstRefusal}
 use Rattle.paging.specs.Entry.{entry, entryBy}
 use Rattle.paging.specs.Memory.{Segment, tableAt, tableFrom, tableIn}
 use Rattle.paging.specs.Packed.{rightsBits}

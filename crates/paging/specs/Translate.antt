@@ -10,8 +10,8 @@ use Rattle.laws.specs.Index.{span, offset}
 use Rattle.mapping.specs.Pages.{Rights, Reason, reserved, outside}
 use Rattle.mapping.specs.Walk.{Walked, walk, allRights}
 use Rattle.mapping.specs.Walk as walked
-use Rattle.addr.specs.Address.{virt, phys, given}
-use Rattle.addr.specs.Item.{itemRefusal, firstRefusal}
+use Rattle.laws.specs.Address.{virt, phys, given}
+use Rattle.laws.specs.Item.{itemRefusal, firstRefusal}
 use Rattle.paging.specs.Entry.{entry, entryBy}
 use Rattle.paging.specs.Memory.{Segment, tableAt, tableFrom, tableIn, tableWords}
 use Rattle.paging.specs.Packed.{rightsBits}

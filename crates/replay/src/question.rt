@@ -2,7 +2,7 @@
 // oracle/compare/src/operations/.
 use crate::line::Line;
 use crate::line::MOST_FIELDS;
-use wuohtan::align;
+use wuohtan::alignment;
 use wuohtan::frame_ranges;
 use wuohtan::frames;
 use wuohtan::page_ranges;
@@ -238,8 +238,8 @@ fn ask_frame_range_inclusive(
 
 fn ask(operation: u64, a: u64, b: u64, c: u64, d: u64, n: u64, out: &mut [u64]) -> u8 {
     match operation {
-        0x01 => align::wuohtan_align_down(a, b, out),
-        0x02 => align::wuohtan_align_up(a, b, out),
+        0x01 => alignment::wuohtan_align_down(a, b, out),
+        0x02 => alignment::wuohtan_align_up(a, b, out),
         0x10..=0x1f => ask_virt_addr(operation, a, b, out),
         0x20..=0x2f => ask_phys_addr(operation, a, b, out),
         0x30..=0x3f => ask_table(operation, a, b, out),

@@ -1,5 +1,4 @@
 // Reads an image file from standard input and prints its mapped runs and stops, a line each.
-use addr::PhysAddr;
 use addr::VirtAddr;
 use image::ANSWER_WORDS;
 use image::END;
@@ -22,6 +21,7 @@ use listing::refused_line;
 use listing::run_line;
 use listing::stop_line;
 use page::Page;
+use phys::PhysAddr;
 ghost use Prim.Native.Nat.{_+_, _*_, _/_, _≤_};
 ghost use lib.ListN.{length};
 ghost use Rattle.listing.specs.Text.{lineBytes};

@@ -1,9 +1,9 @@
 // Translation of an address.
 use crate::tables::walk_table;
-use addr::PhysAddr;
 use addr::VirtAddr;
 use addr::Width;
 use answer::NOT_CANONICAL;
+use phys::PhysAddr;
 use table::PageSize;
 use walk::ALL_RIGHTS;
 use walk::NO_MASK;

@@ -5,9 +5,9 @@ use mathlib.Core.List.{List, [], _∷_}
 use mathlib.Core.Option.{Option}
 use native.Mathlib.Omega.{arith}
 use lib.ListN.{length}
-use Rattle.addr.specs.Address.{virt}
-use Rattle.addr.specs.Item.{itemRefusal, firstRefusal}
-use Rattle.addr.proofs.Item.{first-refused}
+use Rattle.laws.specs.Address.{virt}
+use Rattle.laws.specs.Item.{itemRefusal, firstRefusal}
+use Rattle.laws.proofs.Item.{first-refused}
 use Rattle.paging.specs.Memory.{Segment, placeFrom, reaching, segmentsIn}
 use Rattle.paging.specs.Translate.{imageRefusal}
 use Rattle.paging.specs.Search.{searchRefusal}

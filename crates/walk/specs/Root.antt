@@ -3,8 +3,8 @@ use Prim.Native.Nat.{ℕ, zero, suc, _<_}
 use mathlib.Core.Path.{_≡_}
 use mathlib.Core.List.{List}
 use mathlib.Core.Option.{Option, some}
-use Rattle.addr.specs.Address.{virt, phys}
-use Rattle.addr.specs.Item.{itemRefusal, firstRefusal}
+use Rattle.laws.specs.Address.{virt, phys}
+use Rattle.laws.specs.Item.{itemRefusal, firstRefusal}
 use Rattle.paging.specs.Memory.{Segment, placeFrom}
 use Rattle.paging.specs.Translate.{rootRefusal}
 use Rattle.walk.specs.declared.refusal.Root.{Root}

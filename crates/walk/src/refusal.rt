@@ -1,15 +1,15 @@
 // The test of an image handed in.
 use crate::memory::Place;
 use crate::memory::table_place;
-use addr::PHYS_SIZE;
 use addr::Width;
 use answer::NOT_ALIGNED;
 use answer::NOT_CANONICAL;
 use answer::NOT_PHYSICAL;
 use answer::ROOT_OUTSIDE;
+use phys::PHYS_SIZE;
 ghost use mathlib.Core.Path.{_≡_};
-ghost use Rattle.addr.specs.Address.{phys};
-ghost use Rattle.addr.specs.Item.{itemRefusal};
+ghost use Rattle.laws.specs.Address.{phys};
+ghost use Rattle.laws.specs.Item.{itemRefusal};
 ghost use Rattle.addr.specs.Widths.{widthOf};
 ghost use Rattle.paging.specs.Memory.{reaching, segmentsIn};
 ghost use Rattle.walk.specs.Root.{RootAt, ImageAt, withPage};

@@ -1,5 +1,4 @@
 // Frames, as numbers: a start and a size in bytes.
-use addr::PhysAddr;
 use convention::FrameChoice;
 use convention::FrameRangeChoice;
 use convention::SizeChoice;
@@ -10,10 +9,11 @@ use convention::give_frame;
 use convention::give_phys;
 use convention::give_u64;
 use frame::PhysFrame;
+use phys::PhysAddr;
 use status::NO_SUCH_CHOICE;
 ghost use mathlib.Core.Path.{_≡_};
-ghost use Rattle.addr.specs.Address.{phys};
-ghost use Rattle.addr.specs.Item.{fromStart, containing, startOf, sizeOf, plusItem, minusItem, distanceItem};
+ghost use Rattle.laws.specs.Address.{phys};
+ghost use Rattle.laws.specs.Item.{fromStart, containing, startOf, sizeOf, plusItem, minusItem, distanceItem};
 ghost use Rattle.frame.specs.Frame.{fromPfn, pfnOf};
 ghost use Rattle.status.specs.Convention.{left, leaves, word};
 ghost use Rattle.convention.specs.Items.{startWord};

@@ -1,5 +1,4 @@
 // Translation, the run search, and lists of searches.
-use addr::PhysAddr;
 use addr::VirtAddr;
 use convention::LISTED_WORDS;
 use convention::give_listed;
@@ -7,6 +6,7 @@ use convention::give_search;
 use convention::give_translation;
 use image::list;
 use image::search;
+use phys::PhysAddr;
 use status::NO_ROOM;
 use translation::translate;
 ghost use mathlib.Core.Path.{_≡_};

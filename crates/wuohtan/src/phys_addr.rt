@@ -1,14 +1,14 @@
 // Physical addresses, as numbers.
-use addr::PhysAddr;
 use convention::give_bool;
 use convention::give_phys;
 use convention::give_u64;
+use phys::PhysAddr;
 use status::give;
 ghost use mathlib.Core.Path.{_≡_};
 ghost use mathlib.Core.List.{[], _∷_};
 ghost use Rattle.answer.specs.Outcome.{gives};
 ghost use Prim.Native.Nat.{_%_};
-ghost use Rattle.addr.specs.Address.{phys, physSize, address, isNull, isAligned, plus, minus, distance, alignDownPhys, alignUpPhys};
+ghost use Rattle.laws.specs.Address.{phys, physSize, address, isNull, isAligned, plus, minus, distance, alignDownPhys, alignUpPhys};
 ghost use Rattle.status.specs.Convention.{left, leaves, word, truth};
 
 #[no_mangle]

@@ -13,7 +13,7 @@ ghost use mathlib.Core.Path.{_≡_};
 ghost use mathlib.Core.List.{[], _∷_};
 ghost use Rattle.answer.specs.Outcome.{gives};
 ghost use Rattle.laws.specs.Width.{signExtend};
-ghost use Rattle.addr.specs.Address.{virt, address, isNull, isAligned, plus, minus, distance, alignDownVirt, alignUpVirt, forwardFrom, backwardFrom, stepsBetween, pageOffset, tableIndex};
+ghost use Rattle.laws.specs.Address.{virt, address, isNull, isAligned, plus, minus, distance, alignDownVirt, alignUpVirt, forwardFrom, backwardFrom, stepsBetween, pageOffset, tableIndex};
 ghost use Rattle.status.specs.Convention.{left, leaves, word, truth};
 ghost use Rattle.convention.specs.Choice.{atLevel};
 

@@ -2,7 +2,7 @@
 use mathlib.Core.Path.{sym, _∙_}
 use borrow.Author.Tests.{lt-ltb, le-ltb, eq-eqb, ne-eqb}
 use borrow.Author.Needs.{needs}
-use Rattle.addr.specs.Item.{itemRefusal}
+use Rattle.laws.specs.Item.{itemRefusal}
 use Rattle.frame.proofs.frame.frame_refusal.Statement.{statement}
 use Rattle.frame.proofs.frame.frame_refusal.Tie as tie
 

@@ -1,8 +1,8 @@
 -- `frames_refusal` meets its contract.
 use mathlib.Core.Path.{sym, _∙_}
 use borrow.Author.Needs.{needs}
-use Rattle.addr.proofs.Item.{items-first, items-second, items-same, items-differ}
-use Rattle.addr.specs.Address.{phys}
+use Rattle.laws.proofs.Item.{items-first, items-second, items-same, items-differ}
+use Rattle.laws.specs.Address.{phys}
 use Rattle.frame.proofs.frame.frames_refusal.Statement.{statement}
 use Rattle.frame.proofs.frame.frames_refusal.Tie as tie
 

@@ -9,7 +9,7 @@ use lib.ListN.{length, length-replicate}
 use Rattle.answer.specs.Outcome.{Outcome, gives}
 use Rattle.mapping.specs.Pages.{Space}
 use Rattle.mapping.specs.Walk.{Entry}
-use Rattle.addr.proofs.Item.{refused-unless}
+use Rattle.laws.proofs.Item.{refused-unless}
 use Rattle.paging.specs.EmptyTables.{TrueOf, TrueIn}
 use Rattle.paging.specs.Entry.{entryBy}
 use Rattle.paging.specs.List.{settled, listing}

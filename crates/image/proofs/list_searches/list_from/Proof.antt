@@ -12,7 +12,7 @@ use Rattle.mapping.specs.Search.{Answer}
 use Rattle.mapping.specs.Search as runs
 use Rattle.mapping.specs.Walk.{spanPages}
 use Rattle.mapping.proofs.Walk.{spanned}
-use Rattle.addr.specs.Item.{Item}
+use Rattle.laws.specs.Item.{Item}
 use Rattle.addr.specs.Widths.{widthOf, levelsOf}
 use Rattle.addr.proofs.Widths.{few-levels}
 use Rattle.paging.specs.EmptyTables.{StaysTrue}

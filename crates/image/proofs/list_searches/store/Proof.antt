@@ -8,7 +8,7 @@ use borrow.Author.Needs.{needs}
 use lib.ListN.{length-set, take, drop}
 use lib.Pow.{pow-pos}
 use Rattle.mapping.specs.Walk.{spanPages}
-use Rattle.addr.specs.Item.{Item}
+use Rattle.laws.specs.Item.{Item}
 use Rattle.addr.specs.Widths.{levelsOf}
 use Rattle.image.proofs.Founds.{run-bounds, page-bound}
 use Rattle.paging.proofs.ListWords.{five-stores}

@@ -5,7 +5,7 @@ use mathlib.Core.Path.{_≡_, ap, _∙_}
 use borrow.Author.Needs.{needs}
 use lib.Pow.{pow-pos}
 use Rattle.answer.specs.Outcome.{Outcome, gives}
-use Rattle.addr.specs.Item.{Item}
+use Rattle.laws.specs.Item.{Item}
 use Rattle.addr.specs.Widths.{levelsOf}
 use Rattle.mapping.specs.Pages.{Rights, reserved, outside}
 use Rattle.mapping.specs.Walk.{spanPages}

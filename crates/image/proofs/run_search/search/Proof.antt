@@ -9,7 +9,7 @@ use lib.ListN.{length}
 use Rattle.answer.specs.Outcome.{gives}
 use Rattle.mapping.specs.Pages.{Space}
 use Rattle.mapping.specs.Search as runs
-use Rattle.addr.proofs.Item.{refused-unless}
+use Rattle.laws.proofs.Item.{refused-unless}
 use Rattle.paging.specs.Memory.{Segment, placeFrom, segmentsIn, Inside}
 use Rattle.paging.specs.Search.{pagesFrom, imagePages, report, searchRefusal, searching}
 use Rattle.paging.specs.Translate.{pageNumber, rootTable}

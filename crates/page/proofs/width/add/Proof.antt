@@ -6,8 +6,8 @@ use lib.Pow.{pow-pos}
 use borrow.Author.Needs.{needs}
 use Rattle.laws.proofs.Align.{times-past, times-within}
 use Rattle.laws.proofs.Cases.{test-fails, test-holds}
-use Rattle.addr.proofs.Item.{item-refused, plus-overflow, plus-outside, plus-gives}
-use Rattle.addr.specs.Address.{virt}
+use Rattle.laws.proofs.Item.{item-refused, plus-overflow, plus-outside, plus-gives}
+use Rattle.laws.specs.Address.{virt}
 use Rattle.addr.specs.Widths.{widthOf}
 use Rattle.table.specs.Level.{powerOf}
 use Rattle.page.specs.Page.{start, bytes}

@@ -7,8 +7,8 @@ use borrow.Author.Needs.{needs}
 use Rattle.laws.specs.Width.{low}
 use Rattle.laws.proofs.Width.{low-lt, sizes}
 use Rattle.laws.proofs.Align.{times-past, times-within}
-use Rattle.addr.proofs.Item.{item-refused}
-use Rattle.addr.specs.Address.{virt}
+use Rattle.laws.proofs.Item.{item-refused}
+use Rattle.laws.specs.Address.{virt}
 use Rattle.addr.specs.Widths.{widthOf}
 use Rattle.page.proofs.Steps.{forward-none, forward-page}
 use Rattle.page.specs.Page.{start, bytes}

@@ -8,8 +8,8 @@ use borrow.Author.Needs.{needs}
 use Rattle.answer.specs.Outcome.{gives, refuses, unless}
 use Rattle.answer.specs.Refusal.{sizesDiffer}
 use Rattle.laws.specs.Index.{span, index}
-use Rattle.addr.proofs.Item.{item-refused, item-given}
-use Rattle.addr.specs.Address.{virt}
+use Rattle.laws.proofs.Item.{item-refused, item-given}
+use Rattle.laws.specs.Address.{virt}
 use Rattle.addr.specs.Widths.{widthOf}
 use Rattle.table.specs.Level.{levelOf}
 use Rattle.page.specs.Page.{start, bytes}

@@ -3,8 +3,8 @@ use mathlib.Core.Path.{sym, _∙_}
 use native.Mathlib.Omega.{arith}
 use borrow.Author.Needs.{needs}
 use Rattle.laws.specs.Width.{low}
-use Rattle.addr.proofs.Item.{items-refused}
-use Rattle.addr.specs.Address.{virt}
+use Rattle.laws.proofs.Item.{items-refused}
+use Rattle.laws.specs.Address.{virt}
 use Rattle.addr.specs.Widths.{widthOf}
 use Rattle.page.proofs.Steps.{steps-none, steps-pages}
 use Rattle.page.specs.Page.{start, bytes}

@@ -6,9 +6,9 @@ use borrow.Author.Tests.{le-leb, lt-leb}
 use borrow.Author.Needs.{needs}
 use Rattle.answer.specs.Outcome.{gives, refuses, unless}
 use Rattle.answer.specs.Refusal.{overflow}
-use Rattle.addr.proofs.Item.{items-refused, items-given}
+use Rattle.laws.proofs.Item.{items-refused, items-given}
 use Rattle.page.specs.Page.{start, bytes}
-use Rattle.addr.specs.Address.{virt}
+use Rattle.laws.specs.Address.{virt}
 use Rattle.addr.specs.Widths.{widthOf}
 use Rattle.page.proofs.width.sub_page.Statement.{statement}
 use Rattle.page.proofs.width.sub_page.Tie as tie

@@ -3,7 +3,7 @@ use mathlib.Core.Path.{sym, _∙_}
 use borrow.Author.Tests.{eq-eqb, ne-eqb}
 use borrow.Author.Needs.{needs}
 use Rattle.laws.proofs.Cases.{test-fails, test-holds}
-use Rattle.addr.specs.Item.{itemRefusal}
+use Rattle.laws.specs.Item.{itemRefusal}
 use Rattle.page_draw.proofs.refusal.page_refusal.Statement.{statement}
 use Rattle.page_draw.proofs.refusal.page_refusal.Tie as tie
 

@@ -1,8 +1,8 @@
 -- `pages_refusal` meets its contract.
 use mathlib.Core.Path.{sym, _∙_}
 use borrow.Author.Needs.{needs}
-use Rattle.addr.proofs.Item.{items-first, items-second, items-same, items-differ}
-use Rattle.addr.specs.Address.{virt}
+use Rattle.laws.proofs.Item.{items-first, items-second, items-same, items-differ}
+use Rattle.laws.specs.Address.{virt}
 use Rattle.addr.specs.Widths.{widthOf}
 use Rattle.page_draw.proofs.refusal.pages_refusal.Statement.{statement}
 use Rattle.page_draw.proofs.refusal.pages_refusal.Tie as tie

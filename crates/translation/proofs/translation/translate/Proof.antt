@@ -8,9 +8,9 @@ use lib.ListN.{length}
 use borrow.Author.Needs.{needs}
 use Rattle.answer.specs.Outcome.{Outcome, gives}
 use Rattle.mapping.specs.Walk.{Entry, walk, allRights}
-use Rattle.addr.specs.Address.{virt}
-use Rattle.addr.specs.Address as address
-use Rattle.addr.proofs.Item.{refused-unless}
+use Rattle.laws.specs.Address.{virt}
+use Rattle.laws.specs.Address as address
+use Rattle.laws.proofs.Item.{refused-unless}
 use Rattle.paging.specs.Entry.{entryBy}
 use Rattle.paging.specs.Memory.{Segment, placeFrom, reaching, segmentsIn, tableAt, Inside}
 use Rattle.paging.specs.Translate.{Translated, translated, imageRefusal, rootTable, pageNumber, translation}

@@ -1,9 +1,9 @@
 -- `image_place` meets its contract.
 use mathlib.Core.Path.{_≡_, sym, _∙_}
 use borrow.Author.Needs.{needs}
-use Rattle.addr.specs.Address.{phys}
-use Rattle.addr.specs.Item.{itemRefusal}
-use Rattle.addr.proofs.Item.{refuses-first}
+use Rattle.laws.specs.Address.{phys}
+use Rattle.laws.specs.Item.{itemRefusal}
+use Rattle.laws.proofs.Item.{refuses-first}
 use Rattle.walk.proofs.refusal.image_place.Statement.{statement}
 use Rattle.walk.proofs.refusal.image_place.Tie as tie
 

@@ -5,9 +5,9 @@ use mathlib.Core.Option.{Option, none, some}
 use denote.Ref.{now}
 use lib.Dec.{lit<}
 use borrow.Author.Needs.{needs}
-use Rattle.addr.specs.Address.{phys}
-use Rattle.addr.specs.Item.{itemRefusal}
-use Rattle.addr.proofs.Item.{refuses-first}
+use Rattle.laws.specs.Address.{phys}
+use Rattle.laws.specs.Item.{itemRefusal}
+use Rattle.laws.proofs.Item.{refuses-first}
 use Rattle.paging.specs.Memory.{placeFrom, reaching, segmentsIn}
 use Rattle.paging.specs.Translate.{outsideRefusal, rootRefusal}
 use Rattle.walk.specs.Place.{placeOf}

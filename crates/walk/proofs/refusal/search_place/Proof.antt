@@ -6,8 +6,8 @@ use borrow.Author.Needs.{needs}
 use borrow.Author.Tests.{eq-eqb, ne-eqb}
 use Rattle.laws.specs.Width.{canonical}
 use Rattle.laws.proofs.Cases.{test-fails, test-holds}
-use Rattle.addr.specs.Address.{virt}
-use Rattle.addr.specs.Item.{itemRefusal}
+use Rattle.laws.specs.Address.{virt}
+use Rattle.laws.specs.Item.{itemRefusal}
 use Rattle.addr.specs.Widths.{widthOf}
 use Rattle.walk.specs.Root.{placeUnless, withPage}
 use Rattle.walk.proofs.refusal.search_place.Statement.{statement}

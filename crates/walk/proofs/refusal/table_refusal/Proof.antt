@@ -1,7 +1,7 @@
 -- `table_refusal` meets its contract.
 use Prim.Native.Nat.{_%_, _^_}
 use borrow.Author.Tests.{lt-ltb, le-ltb, eq-eqb, ne-eqb}
-use Rattle.addr.specs.Item.{itemRefusal}
+use Rattle.laws.specs.Item.{itemRefusal}
 use Rattle.walk.proofs.refusal.table_refusal.Statement.{statement}
 use Rattle.walk.proofs.refusal.table_refusal.Tie as tie
 

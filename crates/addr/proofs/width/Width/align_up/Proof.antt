@@ -1,10 +1,6 @@
 -- `Width::align_up` meets its contract.
-use Prim.Native.Nat.{_^_}
-use native.Mathlib.Omega.{arith}
-use borrow.Author.Tests.{lt-ltb, le-ltb}
 use borrow.Author.Needs.{needs}
 use Rattle.laws.proofs.Cases.{test-fails, test-holds}
-use Rattle.laws.specs.Align.{up}
 use Rattle.addr.proofs.width.Width.align_up.Statement.{statement}
 use Rattle.addr.proofs.width.Width.align_up.Tie as tie
 
@@ -14,46 +10,47 @@ is-canonical-requires c κs = search needs
 returns : tie.Need-returns
 returns c = simp (test-fails (c .before .is-canonical .ensures) (c .if1 .taken))
 
-is-power-of-two-requires : tie.Need-is-power-of-two-requires
-is-power-of-two-requires c κs = search needs
+align-up-requires : tie.Need-align-up-requires
+align-up-requires c κs = search needs
 
-returns-2 : tie.Need-returns-2
-returns-2 c =
-    simp (
-      test-holds (c .before .before .before .is-canonical .ensures) (c .before .before .if1 .left),
-      test-fails (c .before .is-power-of-two .ensures) (c .if2 .taken),
-    )
-
-padding-requires : tie.Need-padding-requires
-padding-requires c κs = test-holds (c .before .is-power-of-two .ensures) (c .if2 .left)
-
-sub-if3 : tie.Need-sub-if3
-sub-if3 c = search needs
-
-returns-3 : tie.Need-returns-3
-returns-3 c =
-    let b = c .before .before .before .before .before .before in
-    simp (
-      test-holds (c .before .before .before .before .before .is-canonical .ensures) (c .before .before .before .before .if1 .left),
-      test-holds (c .before .before .before .is-power-of-two .ensures) (c .before .before .if2 .left),
-      le-ltb (up (b .args .align) (b .args .addr .0)) (2 ^ 64) (omega (arith, c .before .padding .ensures)),
-    )
-
-add-above : tie.Need-add-above
-add-above c = search needs
+enum-known-above : tie.Need-enum-known-above
+enum-known-above c = search needs
 
 truncate-requires : tie.Need-truncate-requires
 truncate-requires c κs = search needs
 
+enum-told : tie.Need-enum-told
+enum-told c = search needs
+
+enum-known-number : tie.Need-enum-known-number
+enum-known-number c = search needs
+
+returns-2 : tie.Need-returns-2
+returns-2 c =
+    let b = c .before .before .before .before in
+    simp (
+      test-holds (b .before .before .is-canonical .ensures) (b .before .if1 .left),
+      ← b .align-up .ensures,
+      c .before .before .above .given .1,
+      c .truncate .ensures,
+    )
+
+returns-3 : tie.Need-returns-3
+returns-3 c =
+    let b = c .before .before in
+    simp (
+      test-holds (b .before .before .is-canonical .ensures) (b .before .if1 .left),
+      ← b .align-up .ensures,
+      c .enum-told .given .1,
+    )
+
 returns-4 : tie.Need-returns-4
 returns-4 c =
-    let b = c .before .before .before .before .before .before .before in
+    let b = c .before .before .before in
     simp (
-      test-holds (c .before .before .before .before .before .before .is-canonical .ensures) (c .before .before .before .before .before .if1 .left),
-      test-holds (c .before .before .before .before .is-power-of-two .ensures) (c .before .before .before .if2 .left),
-      lt-ltb (up (b .args .align) (b .args .addr .0)) (2 ^ 64) (omega (arith, c .before .before .padding .ensures)),
-      c .truncate .ensures,
-      c .before .before .padding .ensures,
+      test-holds (b .before .before .is-canonical .ensures) (b .before .if1 .left),
+      ← b .align-up .ensures,
+      c .before .number .given .1,
     )
 
 pub align-up-spec : {M : Type 1} → statement M
@@ -62,11 +59,11 @@ align-up-spec =
     (tie.spec
     is-canonical-requires
     returns
-    is-power-of-two-requires
-    returns-2
-    padding-requires
-    sub-if3
-    returns-3
-    add-above
+    align-up-requires
+    enum-known-above
     truncate-requires
+    enum-told
+    enum-known-number
+    returns-2
+    returns-3
     returns-4)

@@ -7,8 +7,8 @@ use borrow.Author.Tests.{lt-ltb, le-ltb}
 use borrow.Author.Needs.{needs}
 use Rattle.laws.proofs.Align.{times-past, times-within}
 use Rattle.table.specs.Level.{powerOf}
-use Rattle.addr.proofs.Item.{item-refused, plus-overflow, plus-outside, plus-gives}
-use Rattle.addr.specs.Address.{phys}
+use Rattle.laws.proofs.Item.{item-refused, plus-overflow, plus-outside, plus-gives}
+use Rattle.laws.specs.Address.{phys}
 use Rattle.frame.specs.Frame.{start, bytes}
 use Rattle.frame.proofs.frame.PhysFrame.add.Statement.{statement}
 use Rattle.frame.proofs.frame.PhysFrame.add.Tie as tie

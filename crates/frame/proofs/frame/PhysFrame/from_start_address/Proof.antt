@@ -1,8 +1,8 @@
 -- `PhysFrame::from_start_address` meets its contract.
 use mathlib.Core.Path.{sym, _∙_}
 use borrow.Author.Needs.{needs}
-use Rattle.addr.proofs.Item.{item-refused, item-given}
-use Rattle.addr.specs.Address.{phys}
+use Rattle.laws.proofs.Item.{item-refused, item-given}
+use Rattle.laws.specs.Address.{phys}
 use Rattle.frame.proofs.frame.PhysFrame.from_start_address.Statement.{statement}
 use Rattle.frame.proofs.frame.PhysFrame.from_start_address.Tie as tie
 

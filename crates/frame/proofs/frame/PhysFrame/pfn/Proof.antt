@@ -1,8 +1,8 @@
 -- `PhysFrame::pfn` meets its contract.
 use mathlib.Core.Path.{sym, _∙_}
 use borrow.Author.Needs.{needs}
-use Rattle.addr.proofs.Item.{item-refused, item-given}
-use Rattle.addr.specs.Address.{phys}
+use Rattle.laws.proofs.Item.{item-refused, item-given}
+use Rattle.laws.specs.Address.{phys}
 use Rattle.frame.proofs.frame.PhysFrame.pfn.Statement.{statement}
 use Rattle.frame.proofs.frame.PhysFrame.pfn.Tie as tie
 

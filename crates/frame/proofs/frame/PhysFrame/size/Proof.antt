@@ -1,8 +1,8 @@
 -- `PhysFrame::size` meets its contract.
 use mathlib.Core.Path.{sym, _∙_}
 use borrow.Author.Needs.{needs}
-use Rattle.addr.proofs.Item.{item-refused, item-given}
-use Rattle.addr.specs.Address.{phys}
+use Rattle.laws.proofs.Item.{item-refused, item-given}
+use Rattle.laws.specs.Address.{phys}
 use Rattle.frame.proofs.frame.PhysFrame.size.Statement.{statement}
 use Rattle.frame.proofs.frame.PhysFrame.size.Tie as tie
 

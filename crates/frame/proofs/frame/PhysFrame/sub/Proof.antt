@@ -7,8 +7,8 @@ use borrow.Author.Tests.{lt-ltb, ltb-true}
 use borrow.Author.Needs.{needs}
 use Rattle.laws.proofs.Align.{times-past, times-within}
 use Rattle.table.specs.Level.{powerOf}
-use Rattle.addr.proofs.Item.{phys-argument, item-refused, item-passed, minus-overflow, minus-gives}
-use Rattle.addr.specs.Address.{phys}
+use Rattle.laws.proofs.Item.{phys-argument, item-refused, item-passed, minus-overflow, minus-gives}
+use Rattle.laws.specs.Address.{phys}
 use Rattle.frame.specs.Frame.{start, bytes}
 use Rattle.frame.proofs.frame.PhysFrame.sub.Statement.{statement}
 use Rattle.frame.proofs.frame.PhysFrame.sub.Tie as tie

@@ -6,8 +6,8 @@ use borrow.Author.Tests.{le-leb, lt-leb}
 use borrow.Author.Needs.{needs}
 use Rattle.answer.specs.Outcome.{gives, refuses, unless}
 use Rattle.answer.specs.Refusal.{overflow}
-use Rattle.addr.proofs.Item.{items-refused, items-given}
-use Rattle.addr.specs.Address.{phys}
+use Rattle.laws.proofs.Item.{items-refused, items-given}
+use Rattle.laws.specs.Address.{phys}
 use Rattle.frame.specs.Frame.{start, bytes}
 use Rattle.frame.proofs.frame.PhysFrame.sub_frame.Statement.{statement}
 use Rattle.frame.proofs.frame.PhysFrame.sub_frame.Tie as tie

@@ -3,8 +3,8 @@ use mathlib.Core.Path.{sym, _∙_}
 use native.Mathlib.Omega.{arith}
 use borrow.Author.Needs.{needs}
 use Rattle.laws.proofs.Run.{fits-below}
-use Rattle.addr.proofs.Item.{items-refused, items-given}
-use Rattle.addr.specs.Address.{phys}
+use Rattle.laws.proofs.Item.{items-refused, items-given}
+use Rattle.laws.specs.Address.{phys}
 use Rattle.frame.specs.Frame.{start, bytes}
 use Rattle.frame.proofs.Ranges.{accepted}
 use Rattle.frame.proofs.range.PhysFrameRange.size.Statement.{statement}

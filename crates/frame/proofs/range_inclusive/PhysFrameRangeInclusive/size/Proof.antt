@@ -10,8 +10,8 @@ use Rattle.answer.specs.Outcome.{gives, unless}
 use Rattle.answer.specs.Refusal.{overflow}
 use Rattle.laws.specs.Run.{lenThrough}
 use Rattle.laws.proofs.Run.{fits-through}
-use Rattle.addr.proofs.Item.{items-refused, items-given}
-use Rattle.addr.specs.Address.{phys}
+use Rattle.laws.proofs.Item.{items-refused, items-given}
+use Rattle.laws.specs.Address.{phys}
 use Rattle.frame.specs.Frame.{start, bytes}
 use Rattle.frame.proofs.Ranges.{accepted}
 use Rattle.frame.proofs.range_inclusive.PhysFrameRangeInclusive.size.Statement.{statement}

@@ -5,10 +5,10 @@ use borrow.Author.Tests.{eq-eqb, ne-eqb}
 use borrow.Author.Needs.{needs}
 use Rattle.answer.specs.Outcome.{gives, refuses, unless}
 use Rattle.answer.specs.Refusal.{sizesDiffer}
-use Rattle.addr.proofs.Item.{items-refused, items-given}
-use Rattle.addr.specs.Address.{virt}
-use Rattle.addr.specs.Item.{item}
-use Rattle.addr.specs.Range.{ends}
+use Rattle.laws.proofs.Item.{items-refused, items-given}
+use Rattle.laws.specs.Address.{virt}
+use Rattle.laws.specs.Item.{item}
+use Rattle.laws.specs.Range.{ends}
 use Rattle.page.specs.Page.{start, bytes}
 use Rattle.page.proofs.range.PageRange.as_4kib_page_range.Statement.{statement}
 use Rattle.page.proofs.range.PageRange.as_4kib_page_range.Tie as tie
