@@ -5,6 +5,7 @@ use align::align_up;
 use align::is_aligned;
 use answer::BoolAnswer;
 use answer::NOT_CANONICAL;
+use answer::NOT_POWER_OF_TWO;
 use answer::OVERFLOW;
 use answer::RESULT_NOT_CANONICAL;
 use answer::U64Answer;
@@ -105,7 +106,11 @@ impl Width {
         if !self.is_canonical(a) {
             return BoolAnswer::Refused(NOT_CANONICAL);
         }
-        is_aligned(a, align)
+        // Handed on whole, the answer would be packed into one number and unpacked again: 7 instructions.
+        let BoolAnswer::Value(aligned) = is_aligned(a, align) else {
+            return BoolAnswer::Refused(NOT_POWER_OF_TWO);
+        };
+        BoolAnswer::Value(aligned)
     }
 
     // The address count bytes on, by the numbers; 5 beyond 64 bits, 6 if it isn't

@@ -91,7 +91,7 @@ module _ (n a : ℕ) (p : 0 < n) where
 pub blocks : (k m : ℕ) → k ≤ m → 2 ^ (m - k) * 2 ^ k ≡ 2 ^ m
 blocks k m h = let e : m - k + k ≡ m = omega arith in let q : 2 ^ (m - k + k) ≡ 2 ^ (m - k) * 2 ^ k = pow-add 2 (m - k) k in sym (rw e at q)
 
--- rounded up to a power of two, a number is at most the larger power that it is at most
+-- a number of at most 2^m, rounded up to a power of two that is not larger, is at most 2^m
 pub up-within : (m n a : ℕ) → ones n ≡ 1 → n < 2 ^ suc m → a ≤ 2 ^ m → up n a ≤ 2 ^ m
 up-within m n a e f h = go (one→power n e)
   where
@@ -108,7 +108,7 @@ up-top n a e f h = up-within 64 n a e (omega arith) (omega arith)
 pub up-fits : (n a : ℕ) → ones n ≡ 1 → n < 2 ^ 64 → a < 2 ^ 63 → up n a < 2 ^ 64
 up-fits n a e f h = omega (arith, up-within 63 n a e (omega arith) (omega arith))
 
--- of which nothing but the alignment is refused
+-- of the latter nothing but the alignment is refused
 pub up-given : (n a : ℕ) → n < 2 ^ 64 → a < 2 ^ 63 → alignUp a n ≡ unless notPowerOfTwo (powerOfTwo n) (gives (up n a))
 up-given n a f h = go (powerOfTwo n) refl
   where

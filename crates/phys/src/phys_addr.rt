@@ -124,7 +124,11 @@ impl PhysAddr {
         if PHYS_SIZE <= a {
             return BoolAnswer::Refused(NOT_PHYSICAL);
         }
-        is_aligned(a, align)
+        // Handed on whole, the answer would be packed into one number and unpacked again: 7 instructions.
+        let BoolAnswer::Value(aligned) = is_aligned(a, align) else {
+            return BoolAnswer::Refused(NOT_POWER_OF_TWO);
+        };
+        BoolAnswer::Value(aligned)
     }
 
     // The source's `+` with a count; 5 beyond 64 bits, 8 at 2^52 or more.

@@ -1,6 +1,7 @@
 -- `PhysAddr::is_aligned` meets its contract.
 use borrow.Author.Tests.{lt-ltb, le-ltb}
 use borrow.Author.Needs.{needs}
+use Rattle.align.proofs.Refused.{no-multiple}
 use Rattle.phys.proofs.phys_addr.PhysAddr.is_aligned.Statement.{statement}
 use Rattle.phys.proofs.phys_addr.PhysAddr.is_aligned.Tie as tie
 
@@ -10,8 +11,32 @@ returns c = simp (le-ltb _ _ (c .if1 .taken))
 is-aligned-requires : tie.Need-is-aligned-requires
 is-aligned-requires c κs = search needs
 
+enum-known-aligned : tie.Need-enum-known-aligned
+enum-known-aligned c = search needs
+
+enum-told : tie.Need-enum-told
+enum-told c = search needs
+
 returns-2 : tie.Need-returns-2
-returns-2 c = simp (lt-ltb _ _ (c .before .if1 .left), c .is-aligned .ensures)
+returns-2 c =
+    let b = c .before .before in
+    let x = b .before .before .args in
+    let e = rw (c .enum-told .given .1) at (b .is-aligned .ensures) in
+    simp (
+      lt-ltb _ _ (b .before .if1 .left),
+      no-multiple (c .enum-told .given .0 .0) (x .self .0) (x .align) e,
+    )
+
+returns-3 : tie.Need-returns-3
+returns-3 c =
+    let b = c .before .before .before in
+    simp (
+      lt-ltb _ _ (b .before .if1 .left),
+      ← b .is-aligned .ensures,
+      c .before .aligned .given .1,
+    )
 
 pub is-aligned-spec : {M : Type 1} → statement M
-is-aligned-spec = tie.close (tie.spec returns is-aligned-requires returns-2)
+is-aligned-spec =
+    tie.close
+    (tie.spec returns is-aligned-requires enum-known-aligned enum-told returns-2 returns-3)
