@@ -1,17 +1,14 @@
-// A byte for each 512 words, in it a bit for each level. What has no bit is not remembered.
+// A byte for each 512 words, in it a bit for each level; level 9 would have that of level 1 again, and so on. What has no byte is not remembered.
 use walk::TABLE_WORDS;
 use walk::within_span;
 ghost use mathlib.Core.Path.{_≡_};
 ghost use lib.ListN.{length, replicate};
-ghost use Rattle.paging.specs.EmptyTables.{hasBit, marked, marking, markingWhole};
+ghost use Rattle.paging.specs.EmptyTables.{hasByte, marked, marking, markingWhole};
 
-// Whether the table at a place has a bit as one of level below + 1. Those of a list of segments lie at multiples of 512 words.
-fn has_bit(bytes: &[u8], place: usize, below: u64) -> bool
-    ensures { λ r. ⌜ r ≡ hasBit (now (bytes .entry)) place below ⌝ }
+// Whether the table at a place has a byte: those of a list of segments lie at multiples of 512 words.
+fn has_byte(bytes: &[u8], place: usize) -> bool
+    ensures { λ r. ⌜ r ≡ hasByte (now (bytes .entry)) place ⌝ }
 {
-    if 8 <= below {
-        return false;
-    }
     if place % TABLE_WORDS == 0 {
         return place / TABLE_WORDS < bytes.len();
     }
@@ -22,9 +19,9 @@ fn has_bit(bytes: &[u8], place: usize, below: u64) -> bool
 pub fn is_empty(bytes: &[u8], place: usize, below: u64) -> bool
     ensures { λ r. ⌜ r ≡ marked (now (bytes .entry)) place below ⌝ }
 {
-    let has = has_bit(bytes, place, below);
+    let has = has_byte(bytes, place);
     if has {
-        return (bytes[place / TABLE_WORDS] as u64 >> below) & 1 == 1;
+        return (bytes[place / TABLE_WORDS] as u64 >> (below % 8)) & 1 == 1;
     }
     false
 }
@@ -33,10 +30,10 @@ pub fn is_empty(bytes: &[u8], place: usize, below: u64) -> bool
 fn remember(bytes: &mut [u8], place: usize, below: u64)
     ensures { λ _. ⌜ now (bytes .exit) ≡ marking (now (bytes .entry)) place below ⌝ }
 {
-    let has = has_bit(&bytes[0..bytes.len()], place, below);
+    let has = has_byte(&bytes[0..bytes.len()], place);
     if has {
         let i = place / TABLE_WORDS;
-        bytes[i] = (bytes[i] as u64 | (1 << below)) as u8;
+        bytes[i] = (bytes[i] as u64 | (1 << (below % 8))) as u8;
     }
 }
 
@@ -45,10 +42,8 @@ pub fn remember_whole(bytes: &mut [u8], nothing: bool, place: usize, below: u64,
     ensures { λ _. ⌜ now (bytes .exit) ≡ markingWhole (now (bytes .entry)) nothing place below from ⌝ }
 {
     if nothing {
-        if below < 8 {
-            if within_span(from, below + 1) == 0 {
-                remember(bytes, place, below);
-            }
+        if within_span(from, below % 8 + 1) == 0 {
+            remember(bytes, place, below);
         }
     }
 }

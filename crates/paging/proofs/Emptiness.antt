@@ -1,11 +1,11 @@
 -- What is known of tables that hold nothing: one that was gone through whole with nothing found is such a table.
 use Prim.Native.Nat.{ℕ, _+_, _/_, _%_, _≤_, _<_}
-use mathlib.Core.Path.{_≡_, refl, ap, _∙_}
+use mathlib.Core.Path.{_≡_, refl, sym, ap, subst, _∙_}
 use mathlib.Core.Bool.{Bool, true, false, cond, _&&_}
 use mathlib.Core.List.{List}
 use mathlib.Core.Option.{Option}
 use native.Mathlib.Omega.{arith}
-use native.Mathlib.Nat.{div-add-mod', add-mul}
+use native.Mathlib.Nat.{div-add-mod', add-mul, mod-eq-of-lt}
 use borrow.Author.Tests.{eqb-true}
 use lib.Dec.{eqb}
 use lib.ListN.{length, getD}
@@ -51,20 +51,22 @@ module _ (mask : ℕ) (memory : ℕ → Option (List ℕ)) (l : ℕ) (t : List �
       holds-nothing (entryBy mask) memory l t r a e (λ x i j. found-nothing (after l a) y v (omega arith) p z x i (omega arith))
 
 -- the bytes after a table of level n + 1 was gone through from page a on
-module _ (mask : ℕ) (memory : ℕ → Option (List ℕ)) (words : List ℕ) (p n : ℕ) (r : Rights) (a : ℕ) (w : List ℕ) (g : GoesOn w a) (bytes : List ℕ) (t : TrueOf (entryBy mask) memory words bytes) (inside : p + 512 ≤ length words) where
+module _ (mask : ℕ) (memory : ℕ → Option (List ℕ)) (words : List ℕ) (p n : ℕ) (r : Rights) (a : ℕ) (w : List ℕ) (g : GoesOn w a) (bytes : List ℕ) (t : TrueOf (entryBy mask) memory words bytes) (inside : p + 512 ≤ length words) (l : n < 8) where
   pub whole-true : (y : ℕ) (v : List ℕ) → Passes (pagesBy mask memory (n + 1) (tableFrom words p) r) a (after (n + 1) a) w v y
       → TrueOf (entryBy mask) memory words (markingWhole bytes (eqb (getD v 0 0) 0) p n a)
-  whole-true y v q = go (eqb (getD v 0 0) 0) refl (eqb (a % spanPages (n + 1)) 0) refl
+  whole-true y v q =
+      subst (λ (m : ℕ). TrueOf (entryBy mask) memory words (cond (eqb (getD v 0 0) 0 && eqb (a % spanPages (m + 1)) 0) (marking bytes p n) bytes)) (sym (mod-eq-of-lt l))
+      (go (eqb (getD v 0 0) 0) refl (eqb (a % spanPages (n + 1)) 0) refl)
     where
       go : (b : Bool) → eqb (getD v 0 0) 0 ≡ b → (c : Bool) → eqb (a % spanPages (n + 1)) 0 ≡ c → TrueOf (entryBy mask) memory words (cond (b && c) (marking bytes p n) bytes)
       go true e true f =
-          marking-true (entryBy mask) memory words bytes t p n inside
+          marking-true (entryBy mask) memory words bytes t p n l inside
           (now-empty mask memory (n + 1) (tableFrom words p) r a w g y v (eqb-true (a % spanPages (n + 1)) 0 f) q (eqb-true (getD v 0 0) 0 e))
       go true e false f = t
       go false e c f = t
 
 pub whole-length : (bytes : List ℕ) (nothing : Bool) (p n x : ℕ) → length (markingWhole bytes nothing p n x) ≡ length bytes
-whole-length bytes nothing p n x = go (nothing && eqb (x % spanPages (n + 1)) 0)
+whole-length bytes nothing p n x = go (nothing && eqb (x % spanPages (n % 8 + 1)) 0)
   where
     go : (b : Bool) → length (cond b (marking bytes p n) bytes) ≡ length bytes
     go true = marking-length bytes p n

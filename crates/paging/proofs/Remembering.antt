@@ -6,10 +6,10 @@ use mathlib.Core.List.{List, [], _∷_, _++_}
 use mathlib.Core.Logic.{_⊎_, inl, inr, ⊎-elim}
 use mathlib.Core.Option.{Option}
 use native.Mathlib.Decide.{ℕ-discrete, decLt}
-use native.Mathlib.Nat.{mod-lt, div-eq-of-lt}
+use native.Mathlib.Nat.{mod-lt, mod-eq-of-lt, div-eq-of-lt}
 use native.Mathlib.Numerals.{add-one}
 use native.Mathlib.Omega.{arith}
-use borrow.Author.Tests.{eqb-true, ltb-true, le-ltb}
+use borrow.Author.Tests.{eqb-true, ltb-true}
 use lib.Bits.{bitAnd, bitOr, and-mask, or-lt, or-shr, or-mod}
 use lib.Dec.{lit<, eqb, ltb}
 use lib.ListN.{length, length-set, getD, take, drop, replicate, length-replicate, getD-replicate, replicate-append-replicate}
@@ -19,9 +19,8 @@ use lib.Seq.{getD-set-same, getD-set-other, take-all, take-suc, take-suc-set}
 use Rattle.laws.proofs.Cases.{by-cases}
 use Rattle.mapping.specs.Walk.{Entry, HoldsNothing}
 use Rattle.paging.specs.Entry.{set}
-use Rattle.paging.specs.EmptyTables.{TrueOf, hasBit, marked, marking, markingWhole}
+use Rattle.paging.specs.EmptyTables.{TrueOf, hasByte, marked, marking}
 use Rattle.paging.specs.Memory.{tableFrom}
-use Rattle.paging.specs.Span.{within}
 
 -- a bit of 2 ^ n
 power-bit : (m n : ℕ) → 2 ^ n / 2 ^ m % 2 ≡ 1 → m ≡ n
@@ -57,36 +56,35 @@ and-parts : (a b : Bool) → (a && b) ≡ true → (a ≡ true) × (b ≡ true)
 and-parts true b e = (refl, e)
 and-parts false b e = absurd (let z : _≡_ {A = ℕ} 0 1 = cc in omega arith)
 
--- a table that has a bit
-pub has-place : (bytes : List ℕ) (p n : ℕ) → hasBit bytes p n ≡ true → (n < 8) × ((p ≡ 512 * (p / 512)) × (p / 512 < length bytes))
-has-place bytes p n e =
-    let s = and-parts (ltb n 8) (eqb (p % 512) 0 && ltb (p / 512) (length bytes)) e in
-    let t = and-parts (eqb (p % 512) 0) (ltb (p / 512) (length bytes)) (s .1) in
-    (ltb-true n 8 (s .0), (omega (arith, eqb-true (p % 512) 0 (t .0)), ltb-true (p / 512) (length bytes) (t .1)))
+-- a table that has a byte
+pub has-place : (bytes : List ℕ) (p : ℕ) → hasByte bytes p ≡ true → (p ≡ 512 * (p / 512)) × (p / 512 < length bytes)
+has-place bytes p e =
+    let t = and-parts (eqb (p % 512) 0) (ltb (p / 512) (length bytes)) e in
+    (omega (arith, eqb-true (p % 512) 0 (t .0)), ltb-true (p / 512) (length bytes) (t .1))
 
 -- whether it has one, where the code lends all of the bytes as a part
-pub whole-has : {r b : Bool} (bytes : List ℕ) (p n : ℕ) → r ≡ hasBit (take (length bytes - 0) (drop 0 bytes)) p n → r ≡ b → hasBit bytes p n ≡ b
-whole-has bytes p n e h = sym (ap (λ (l : List ℕ). hasBit l p n) (take-all (length bytes - 0) bytes (omega arith))) ∙ sym e ∙ h
+pub whole-has : {r b : Bool} (bytes : List ℕ) (p : ℕ) → r ≡ hasByte (take (length bytes - 0) (drop 0 bytes)) p → r ≡ b → hasByte bytes p ≡ b
+whole-has bytes p e h = sym (ap (λ (l : List ℕ). hasByte l p) (take-all (length bytes - 0) bytes (omega arith))) ∙ sym e ∙ h
 
 module _ (entry : ℕ → ℕ → Entry) (memory : ℕ → Option (List ℕ)) (words bytes : List ℕ) (t : TrueOf entry memory words bytes) where
   -- what is marked is true
-  pub marked-true : (p n : ℕ) → marked bytes p n ≡ true → HoldsNothing entry memory (n + 1) (tableFrom words p)
-  marked-true p n = go (hasBit bytes p n) refl
+  pub marked-true : (p n : ℕ) → n < 8 → marked bytes p n ≡ true → HoldsNothing entry memory (n + 1) (tableFrom words p)
+  marked-true p n l = go (hasByte bytes p) refl
     where
-      go : (b : Bool) → hasBit bytes p n ≡ b → (b && set n (getD bytes (p / 512) 0)) ≡ true → HoldsNothing entry memory (n + 1) (tableFrom words p)
+      go : (b : Bool) → hasByte bytes p ≡ b → (b && set (n % 8) (getD bytes (p / 512) 0)) ≡ true → HoldsNothing entry memory (n + 1) (tableFrom words p)
       go true e s =
-          let h = has-place bytes p n e .1 in
-          subst (λ (z : ℕ). HoldsNothing entry memory (n + 1) (tableFrom words z)) (sym (h .0)) (t (p / 512) n (h .1) s .1)
+          let h = has-place bytes p e in
+          subst (λ (z : ℕ). HoldsNothing entry memory (n + 1) (tableFrom words z)) (sym (h .0)) (t (p / 512) n (h .1) (rw (mod-eq-of-lt l) at s) .1)
       go false e s = absurd (let z : _≡_ {A = ℕ} 0 1 = cc in omega arith)
 
   -- and stays true with a table marked that holds nothing
-  pub marking-true : (p n : ℕ) → p + 512 ≤ length words → HoldsNothing entry memory (n + 1) (tableFrom words p) → TrueOf entry memory words (marking bytes p n)
-  marking-true p n inside nothing = go (hasBit bytes p n) refl
+  pub marking-true : (p n : ℕ) → n < 8 → p + 512 ≤ length words → HoldsNothing entry memory (n + 1) (tableFrom words p) → TrueOf entry memory words (marking bytes p n)
+  marking-true p n l inside nothing = rw (mod-eq-of-lt l) (go (hasByte bytes p) refl)
     where
-      same : hasBit bytes p n ≡ true → (m : ℕ) → set m (bitOr (getD bytes (p / 512) 0) (2 ^ n)) ≡ true
+      same : hasByte bytes p ≡ true → (m : ℕ) → set m (bitOr (getD bytes (p / 512) 0) (2 ^ n)) ≡ true
           → (512 * (p / 512) + 512 ≤ length words) × HoldsNothing entry memory (m + 1) (tableFrom words (512 * (p / 512)))
       same e m s =
-          let h = has-place bytes p n e .1 in
+          let h = has-place bytes p e in
           ⊎-elim (λ old. t (p / 512) m (h .1) old)
           (λ new. (
             omega arith,
@@ -95,20 +93,20 @@ module _ (entry : ℕ → ℕ → Entry) (memory : ℕ → Option (List ℕ)) (w
           ))
           (set-or m (getD bytes (p / 512) 0) n s)
 
-      go : (b : Bool) → hasBit bytes p n ≡ b → TrueOf entry memory words (cond b (list.set bytes (p / 512) (bitOr (getD bytes (p / 512) 0) (2 ^ n))) bytes)
-      go true e i m l s =
-          let h = has-place bytes p n e .1 in
-          let k : i < length bytes = rw length-set at l in
+      go : (b : Bool) → hasByte bytes p ≡ b → TrueOf entry memory words (cond b (list.set bytes (p / 512) (bitOr (getD bytes (p / 512) 0) (2 ^ n))) bytes)
+      go true e i m q s =
+          let h = has-place bytes p e in
+          let k : i < length bytes = rw length-set at q in
           by-cases (ℕ-discrete i (p / 512))
           (λ j. rw j (same e m (rw (j, getD-set-same bytes (p / 512) (bitOr (getD bytes (p / 512) 0) (2 ^ n)) 0 (h .1)) at s)))
           (λ j. t i m k (rw (getD-set-other bytes (p / 512) i (bitOr (getD bytes (p / 512) 0) (2 ^ n)) 0 j) at s))
-      go false e i m l s = t i m l s
+      go false e i m q s = t i m q s
 
 pub marking-length : (bytes : List ℕ) (p n : ℕ) → length (marking bytes p n) ≡ length bytes
-marking-length bytes p n = go (hasBit bytes p n)
+marking-length bytes p n = go (hasByte bytes p)
   where
-    go : (b : Bool) → length (cond b (list.set bytes (p / 512) (bitOr (getD bytes (p / 512) 0) (2 ^ n))) bytes) ≡ length bytes
-    go true = length-set bytes (p / 512) (bitOr (getD bytes (p / 512) 0) (2 ^ n))
+    go : (b : Bool) → length (cond b (list.set bytes (p / 512) (bitOr (getD bytes (p / 512) 0) (2 ^ (n % 8)))) bytes) ≡ length bytes
+    go true = length-set bytes (p / 512) (bitOr (getD bytes (p / 512) 0) (2 ^ (n % 8)))
     go false = refl
 
 -- forgotten bytes say nothing
@@ -119,33 +117,25 @@ forgotten-true entry memory words k i n l s =
     absurd (let o : _≡_ {A = ℕ} 0 1 = cc in omega arith)
 
 -- as the code reads a bit
-pub read-bit : (bytes : List ℕ) (p n : ℕ) → hasBit bytes p n ≡ true → eqb (bitAnd (getD bytes (p / 512) 0 / 2 ^ n) 1) 1 ≡ marked bytes p n
-read-bit bytes p n e = rw (e, and-mask (getD bytes (p / 512) 0 / 2 ^ n) 1)
+pub read-bit : (bytes : List ℕ) (p n : ℕ) → hasByte bytes p ≡ true → eqb (bitAnd (getD bytes (p / 512) 0 / 2 ^ (n % 8)) 1) 1 ≡ marked bytes p n
+read-bit bytes p n e = rw (e, and-mask (getD bytes (p / 512) 0 / 2 ^ (n % 8)) 1)
 
-pub no-bit : (bytes : List ℕ) (p n : ℕ) → hasBit bytes p n ≡ false → false ≡ marked bytes p n
+pub no-bit : (bytes : List ℕ) (p n : ℕ) → hasByte bytes p ≡ false → false ≡ marked bytes p n
 no-bit bytes p n e = rw e
 
 -- as it sets one
-one-shifted : (n : ℕ) → n < 8 → 1 * 2 ^ n % 2 ^ 64 ≡ 2 ^ n
-one-shifted n h = shl-exact 1 n 64 (lit< tt) (omega arith) ∙ omega arith
+one-shifted : (n : ℕ) → 1 * 2 ^ (n % 8) % 2 ^ 64 ≡ 2 ^ (n % 8)
+one-shifted n = shl-exact 1 (n % 8) 64 (lit< tt) (omega arith) ∙ omega arith
 
-pub byte-fits : (b n : ℕ) → b < 256 → n < 8 → bitOr b (1 * 2 ^ n % 2 ^ 64) < 256
-byte-fits b n h k = rw (one-shifted n k) (or-lt 8 b (2 ^ n) h (pow-lt k))
+pub byte-fits : (b n : ℕ) → b < 256 → bitOr b (1 * 2 ^ (n % 8) % 2 ^ 64) < 256
+byte-fits b n h = rw (one-shifted n) (or-lt 8 b (2 ^ (n % 8)) h (pow-lt (mod-lt n (lit< tt))))
 
-pub write-bit : (bytes : List ℕ) (p n : ℕ) → hasBit bytes p n ≡ true
-    → list.set bytes (p / 512) (bitOr (getD bytes (p / 512) 0) (1 * 2 ^ n % 2 ^ 64)) ≡ marking bytes p n
-write-bit bytes p n e = rw (e, one-shifted n (has-place bytes p n e .0))
+pub write-bit : (bytes : List ℕ) (p n : ℕ) → hasByte bytes p ≡ true
+    → list.set bytes (p / 512) (bitOr (getD bytes (p / 512) 0) (1 * 2 ^ (n % 8) % 2 ^ 64)) ≡ marking bytes p n
+write-bit bytes p n e = rw (e, one-shifted n)
 
-pub write-none : (bytes : List ℕ) (p n : ℕ) → hasBit bytes p n ≡ false → bytes ≡ marking bytes p n
+pub write-none : (bytes : List ℕ) (p n : ℕ) → hasByte bytes p ≡ false → bytes ≡ marking bytes p n
 write-none bytes p n e = rw e
-
--- as it passes a level for which a byte has no bit
-pub not-marked : (bytes : List ℕ) (nothing : Bool) (p n x : ℕ) → 8 ≤ n → bytes ≡ markingWhole bytes nothing p n x
-not-marked bytes nothing p n x h = go (nothing && eqb (within (n + 1) x) 0)
-  where
-    go : (b : Bool) → bytes ≡ cond b (marking bytes p n) bytes
-    go true = rw (le-ltb n 8 h)
-    go false = refl
 
 -- as it clears the bytes, one after the other
 pub one-cleared : (l : List ℕ) (i : ℕ) → i < length l → take i l ≡ replicate i 0 → take (i + 1) (list.set l i 0) ≡ replicate (i + 1) 0

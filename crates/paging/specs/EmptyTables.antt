@@ -27,18 +27,18 @@ TrueIn mask segments words = TrueOf (entryBy mask) (tableIn segments words) word
 abbrev pub StaysTrue : (mask : ℕ) → List Segment → (words before after : List ℕ) → Type 0
 StaysTrue mask segments words before after = (length after ≡ length before) × TrueIn mask segments words after
 
--- whether a table at a place has a bit as one of level `n` + 1
-abbrev pub hasBit : List ℕ → (p n : ℕ) → Bool
-hasBit bytes p n = ltb n 8 && (eqb (p % 512) 0 && ltb (p / 512) (length bytes))
+-- whether a table at a place has a byte
+abbrev pub hasByte : List ℕ → ℕ → Bool
+hasByte bytes p = eqb (p % 512) 0 && ltb (p / 512) (length bytes)
 
--- whether that is set
+-- whether its bit for level `n` + 1 is set; a byte has eight
 abbrev pub marked : List ℕ → (p n : ℕ) → Bool
-marked bytes p n = hasBit bytes p n && set n (getD bytes (p / 512) 0)
+marked bytes p n = hasByte bytes p && set (n % 8) (getD bytes (p / 512) 0)
 
 -- the bytes with it set
 abbrev pub marking : List ℕ → (p n : ℕ) → List ℕ
-marking bytes p n = cond (hasBit bytes p n) (list.set bytes (p / 512) (bitOr (getD bytes (p / 512) 0) (2 ^ n))) bytes
+marking bytes p n = cond (hasByte bytes p) (list.set bytes (p / 512) (bitOr (getD bytes (p / 512) 0) (2 ^ (n % 8)))) bytes
 
 -- the same if the table was gone through from page `x` on, that is all of it, and nothing was found
 abbrev pub markingWhole : List ℕ → (nothing : Bool) → (p n x : ℕ) → List ℕ
-markingWhole bytes nothing p n x = cond (nothing && eqb (within (n + 1) x) 0) (marking bytes p n) bytes
+markingWhole bytes nothing p n x = cond (nothing && eqb (within (n % 8 + 1) x) 0) (marking bytes p n) bytes

@@ -1,13 +1,11 @@
 -- `remember_whole` marks a table that was gone through whole with nothing found.
-use Prim.Native.Nat.{_+_}
+use Prim.Native.Nat.{_+_, _%_}
 use mathlib.Core.Path.{_≡_, sym, _∙_}
 use mathlib.Core.Bool.{true, false}
-use native.Mathlib.Omega.{arith}
 use borrow.Author.Needs.{needs}
 use borrow.Author.Tests.{eq-eqb, ne-eqb}
 use lib.Dec.{eqb}
 use Rattle.paging.specs.Span.{within}
-use Rattle.paging.proofs.Remembering.{not-marked}
 use Rattle.empty_tables.proofs.empty_tables.remember_whole.Statement.{statement}
 use Rattle.empty_tables.proofs.empty_tables.remember_whole.Tie as tie
 
@@ -26,25 +24,20 @@ same-length c = search needs
 returns : tie.Need-returns
 returns c =
     let r = c .before .before in
-    let o = r .before .before .before .before .before in
+    let o = r .before .before .before .before in
     let a = o .before .before .args in
-    let all : eqb (within (a .below + 1) (a .from)) 0 ≡ true = eq-eqb (within (a .below + 1) (a .from)) 0 (sym (r .before .before .before .within-span .ensures) ∙ r .before .before .if3 .taken) in
+    let all : eqb (within (a .below % 8 + 1) (a .from)) 0 ≡ true = eq-eqb (within (a .below % 8 + 1) (a .from)) 0 (sym (r .before .before .before .within-span .ensures) ∙ r .before .before .if2 .taken) in
     r .remember .ensures ∙ sym (simp (o .if1 .taken, all))
 
 returns-2 : tie.Need-returns-2
 returns-2 c =
-    let o = c .before .before .before in
+    let o = c .before .before in
     let a = o .before .before .args in
-    let part : eqb (within (a .below + 1) (a .from)) 0 ≡ false = ne-eqb (within (a .below + 1) (a .from)) 0 (λ e. c .if3 .left (c .before .within-span .ensures ∙ e)) in
+    let part : eqb (within (a .below % 8 + 1) (a .from)) 0 ≡ false = ne-eqb (within (a .below % 8 + 1) (a .from)) 0 (λ e. c .if2 .left (c .before .within-span .ensures ∙ e)) in
     simp (o .if1 .taken, part)
 
 returns-3 : tie.Need-returns-3
-returns-3 c =
-    let a = c .before .before .before .args in
-    not-marked (a .bytes .now) (a .nothing) (a .place) (a .below) (a .from) (omega arith)
-
-returns-4 : tie.Need-returns-4
-returns-4 c = search needs
+returns-3 c = search needs
 
 pub remember-whole-spec : {M : Type 1} → statement M
 remember-whole-spec =
@@ -56,5 +49,4 @@ remember-whole-spec =
     same-length
     returns
     returns-2
-    returns-3
-    returns-4)
+    returns-3)

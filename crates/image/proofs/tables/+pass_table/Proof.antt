@@ -532,7 +532,7 @@ pass-table-returns-4 t c =
       (
         done t l,
         subst (λ (m : List ℕ). TrueOf (entryBy (a .reserved)) (memory t k) (words t k) m) (sym (r .remember-whole .ensures))
-            (whole-true (a .reserved) (memory t k) (words t k) (a .place) (n t k) (rightsOver (a .rights)) (a .from) (first t k) (given t k .pre .1 .0) (k .loop .empty) (k .loop .inv .1) (given t k .pre .1 .6 .0) (end t k) (k .loop .progress)
+            (whole-true (a .reserved) (memory t k) (words t k) (a .place) (n t k) (rightsOver (a .rights)) (a .from) (first t k) (given t k .pre .1 .0) (k .loop .empty) (k .loop .inv .1) (given t k .pre .1 .6 .0) (omega (arith, given t k .pre .1 .3)) (end t k) (k .loop .progress)
             (subst (λ (e : ℕ). Passes (pages t k) (a .from) e (first t k) (k .loop .progress) (end t k)) (end-is t k) (all-passed t l))),
       ),
     )

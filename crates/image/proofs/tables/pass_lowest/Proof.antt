@@ -6,7 +6,7 @@ use mathlib.Core.Option.{Option, none}
 use native.Mathlib.Omega.{arith}
 use borrow.Author.Needs.{needs}
 use denote.Ref.{now}
-use lib.Dec.{eqb}
+use lib.Dec.{lit<, eqb}
 use lib.ListN.{length, getD}
 use Rattle.paging.specs.EmptyTables.{TrueOf}
 use Rattle.paging.specs.Entry.{entryBy}
@@ -80,7 +80,7 @@ returns c =
       λ memory h. (
         passed k memory,
         subst (λ (b : List ℕ). TrueOf (entryBy (a .reserved)) memory (now (a .words)) b) (sym (r .remember-whole .ensures))
-            (whole-true (a .reserved) memory (now (a .words)) (a .place) 0 (rightsOver (a .rights)) (a .from) (now (a .progress)) (given k .pre .0) (now (a .empty)) h (given k .pre .1) (k .pass-pages .result) (k .pass-pages .last .1 .0) (passed k memory)),
+            (whole-true (a .reserved) memory (now (a .words)) (a .place) 0 (rightsOver (a .rights)) (a .from) (now (a .progress)) (given k .pre .0) (now (a .empty)) h (given k .pre .1) (lit< tt) (k .pass-pages .result) (k .pass-pages .last .1 .0) (passed k memory)),
       ),
     )
 

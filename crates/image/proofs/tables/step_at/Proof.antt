@@ -232,7 +232,7 @@ returns-3 c image t e w =
     let m : placeFrom 0 (segmentsIn (now (a .segments))) (address p) ≡ some at = found-at p (place.At at) (f .before .before .next .given .1) in
     let level : a .below - 1 + 1 ≡ a .below = omega (arith, given k .pre .1) in
     let nothing : HoldsNothing (entryBy (a .reserved)) memory (a .below) (tableFrom image at) = subst (λ (l : ℕ). HoldsNothing (entryBy (a .reserved)) memory l (tableFrom image at)) level
-    (marked-true (entryBy (a .reserved)) memory image (now (a .empty)) e at (a .below - 1) (sym (c .before .is-empty .ensures) ∙ c .if4 .taken)) in
+    (marked-true (entryBy (a .reserved)) memory image (now (a .empty)) e at (a .below - 1) (omega (arith, given k .pre .2)) (sym (c .before .is-empty .ensures) ∙ c .if4 .taken)) in
     passes-absent (pagesBy (a .reserved) memory (a .below + 1) t (rightsOver (a .rights))) (a .page) (after (a .below) (a .page)) (words k) (ahead-of (a .below) (a .page)) (goes k)
     (λ y i j.
     under-table (a .reserved) (segmentsIn (now (a .segments))) image t (a .rights) (a .below) (a .page) (a .word) w (address p) (next p) (told k (look.Next (address p) (next p)) (seen-next p)) at m y i j
