@@ -1,9 +1,9 @@
 // Translations and searches, stored.
-use image::END;
+use found::END;
+use found::OUTSIDE;
+use found::RESERVED;
+use found::RUN;
 use image::ListAnswer;
-use image::OUTSIDE;
-use image::RESERVED;
-use image::RUN;
 use image::SearchAnswer;
 use image::StopReason;
 use status::give_five;

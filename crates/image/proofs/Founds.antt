@@ -11,7 +11,7 @@ use Rattle.paging.specs.Span.{after}
 use Rattle.paging.specs.Search.{report, pageItem, frameItem}
 use Rattle.paging.specs.Search as reports
 use Rattle.image.specs.Found.{foundOf, Kept, OfAnswer}
-use Rattle.image.specs.declared.found.Found.{Found}
+use Rattle.found.specs.declared.found.Found.{Found}
 use Rattle.paging.proofs.RightsBits.{bits-from}
 
 -- the answer of a kind with these numbers

@@ -1,4 +1,3 @@
-pub mod FoundWords
 pub mod Founds
 pub mod ListKept
 pub mod ListWords

@@ -9,7 +9,7 @@ use Rattle.mapping.specs.Pages.{reserved, outside}
 use Rattle.mapping.specs.Search.{Answer, end, stop, run}
 use Rattle.paging.specs.Search.{report, reportWords, pageItem, frameItem}
 use Rattle.image.specs.Found.{foundOf}
-use Rattle.image.specs.declared.found.Found.{Found}
+use Rattle.found.specs.declared.found.Found.{Found}
 
 -- the five words: `x` the page's address, `n` the address of a run's frame or a stop's level
 pub five-words : (w : ℕ) (f : Found) (a : Answer) (x n : ℕ) → f ≡ foundOf a → x ≡ pageItem w (f .page) .start → (f .kind ≡ 1 → n ≡ frameItem (f .place) .start)

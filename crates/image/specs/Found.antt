@@ -1,19 +1,16 @@
 -- An answer of the search as numbers, as the code has it.
-use Prim.Native.Nat.{ℕ, _+_, _-_, _/_, _^_, _≤_, _<_, min}
-use mathlib.Core.Bool.{cond}
-use mathlib.Core.List.{List}
+use Prim.Native.Nat.{ℕ, _+_, _-_, _^_, _≤_, _<_, min}
 use mathlib.Core.Path.{_≡_}
-use lib.Dec.{ltb}
 use Rattle.answer.specs.Outcome.{gives}
 use Rattle.mapping.specs.Pages.{reserved, outside, PageState}
 use Rattle.mapping.specs.Pass.{Progress, unfound, stopped, running}
 use Rattle.mapping.specs.Search.{Answer, end, stop, run, next}
 use Rattle.mapping.specs.Walk.{spanPages, spaceOf}
 use Rattle.paging.specs.Packed.{rightsBits}
-use Rattle.paging.specs.Progress.{progressWords}
 use Rattle.paging.specs.Search.{report}
 use Rattle.image.specs.Search.{reportOf}
-use Rattle.image.specs.declared.found.Found.{Found}
+use Rattle.found.specs.Found.{endOfHalf}
+use Rattle.found.specs.declared.found.Found.{Found}
 use Rattle.image.specs.declared.run_search.SearchAnswer.{SearchAnswer}
 
 -- its kind; its page; the first frame of a run or the level of a stop; a run's count; its rights
@@ -36,23 +33,11 @@ OfAnswer pages f = (pages ≤ 2 ^ 45) × ((a : Answer) × Kept pages a × (f ≡
 abbrev pub Leaves : (pages : ℕ) → Found → ℕ → Type 0
 Leaves pages f n = (levels : ℕ) (page : ℕ → PageState) → pages ≡ spanPages levels → (a : Answer) → f ≡ foundOf a → n ≡ next (spaceOf levels page) a
 
--- a search that has come to page `x`, of so many pages, and its words
-abbrev pub RunInside : Progress → (x pages : ℕ) → Type 0
-RunInside unfound x pages = Unit {0}
-RunInside (stopped q l r) x pages = Unit {0}
-RunInside (running q g h) x pages = (q ≤ x) × (q < pages)
-
-abbrev pub Reaches : List ℕ → (x pages : ℕ) → Type 0
-Reaches words x pages = (s : Progress) × (words ≡ progressWords s) × RunInside s x pages
-
 -- the answer of a search that has come to page `x`, of so many pages, of which half are above the gap
 abbrev pub answerIn : (pages : ℕ) → Progress → ℕ → Answer
 answerIn pages unfound x = end
 answerIn pages (stopped q l r) x = stop q l r
-answerIn pages (running q g h) x = run q g (min x (cond (ltb q (pages / 2)) (pages / 2) pages) - q) h
-
-abbrev pub FoundBy : (pages : ℕ) → List ℕ → ℕ → Found → Type 0
-FoundBy pages words x f = (s : Progress) → words ≡ progressWords s → f ≡ foundOf (answerIn pages s x)
+answerIn pages (running q g h) x = run q g (min x (endOfHalf q pages) - q) h
 
 -- what is reported of it, at the width `w`
 abbrev pub ReportsFound : (w : ℕ) → Found → SearchAnswer → Type 0

@@ -11,7 +11,7 @@ use Rattle.page.specs.Page as page
 use Rattle.paging.specs.List.{Listed, Listing}
 use Rattle.paging.specs.Search.{report, reportWords, answerWords}
 use Rattle.image.specs.Found.{foundOf}
-use Rattle.image.specs.declared.found.Found.{Found}
+use Rattle.found.specs.declared.found.Found.{Found}
 use Rattle.image.specs.declared.list_searches.ListAnswer.{ListAnswer}
 use Rattle.image.specs.declared.list_searches.ListAnswer.the-variants as answer
 

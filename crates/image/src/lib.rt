@@ -1,5 +1,5 @@
 // The search for mapped runs by the tables in a memory image, and lists of searches. An image is lent words, never written; base is the physical address of its first word.
-mod found;
+mod find;
 mod list_searches;
 mod lowest;
 mod numbers;
@@ -9,10 +9,6 @@ mod run_search;
 mod span;
 mod tables;
 
-pub use found::END;
-pub use found::OUTSIDE;
-pub use found::RESERVED;
-pub use found::RUN;
 pub use list_searches::ANSWER_WORDS;
 pub use list_searches::ListAnswer;
 pub use list_searches::list;

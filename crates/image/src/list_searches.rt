@@ -1,12 +1,12 @@
 // A list of searches, into lent words.
-use crate::found::Found;
-use crate::found::RUN;
-use crate::found::find;
-use crate::found::next_page;
+use crate::find::find;
+use crate::find::next_page;
 use crate::numbers::numbered_page;
 use addr::VirtAddr;
 use addr::Width;
 use empty_tables::forget;
+use found::Found;
+use found::RUN;
 use page::Page;
 use phys::PhysAddr;
 use walk::NO_MASK;

@@ -1,8 +1,8 @@
 // The search in a table of level 1.
-use crate::found::END;
-use crate::found::RESERVED;
 use crate::progress::stop;
 use crate::progress::take;
+use found::END;
+use found::RESERVED;
 use walk::TABLE_WORDS;
 use walk::allows;
 use walk::frame_in;

@@ -1,6 +1,6 @@
 // What a search has found on its way: four words that are lent from table to table.
-use crate::found::END;
-use crate::found::RUN;
+use found::END;
+use found::RUN;
 ghost use Prim.Native.Nat.{_^_, _<_};
 ghost use Rattle.paging.specs.Progress.{GoesOn, Halts, Takes};
 

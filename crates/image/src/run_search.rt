@@ -1,13 +1,13 @@
 // The search for mapped runs.
-use crate::found::END;
-use crate::found::Found;
-use crate::found::RESERVED;
-use crate::found::RUN;
-use crate::found::find;
+use crate::find::find;
 use crate::numbers::numbered_frame;
 use crate::numbers::numbered_page;
 use addr::VirtAddr;
 use addr::Width;
+use found::END;
+use found::Found;
+use found::RESERVED;
+use found::RUN;
 use frame::PhysFrame;
 use page::Page;
 use phys::PhysAddr;

@@ -1,13 +1,13 @@
 // The search over tables, each lower one by the same rule, one level down.
-use crate::found::END;
-use crate::found::OUTSIDE;
-use crate::found::RESERVED;
 use crate::pages::pass_pages;
 use crate::progress::stop;
 use crate::progress::take;
 use crate::span::span_end;
 use empty_tables::is_empty;
 use empty_tables::remember_whole;
+use found::END;
+use found::OUTSIDE;
+use found::RESERVED;
 use walk::Look;
 use walk::Place;
 use walk::TABLE_WORDS;

@@ -1,10 +1,10 @@
 // Reads an image file from standard input and prints its mapped runs and stops, a line each.
 use addr::VirtAddr;
+use found::END;
+use found::RESERVED;
+use found::RUN;
 use image::ANSWER_WORDS;
-use image::END;
 use image::ListAnswer;
-use image::RESERVED;
-use image::RUN;
 use image::list;
 use input::Header;
 use input::HeaderAnswer;

@@ -5,27 +5,37 @@ use mathlib.Core.List.{List}
 use native.Mathlib.Omega.{arith}
 use borrow.Author.Needs.{needs}
 use denote.Ref.{now}
+use lib.ListN.{getD}
 use lib.Pow.{pow-mono, pow-add, shl-shr}
-use Rattle.mapping.specs.Pages.{PageState, Space}
+use Rattle.mapping.specs.Pages.{PageState, Space, reserved, outside}
 use Rattle.mapping.specs.Pass.{Progress, unfound, stopped, running, at-page, pass, answerOf}
 use Rattle.mapping.specs.Search.{halfEnd}
 use Rattle.mapping.specs.Walk.{spanPages, spaceOf}
-use Rattle.mapping.proofs.Pass.{ran, passed-search}
+use Rattle.mapping.proofs.Pass.{passed-search}
 use Rattle.addr.specs.Widths.{levelsOf}
 use Rattle.addr.proofs.Widths.{few-levels}
-use Rattle.image.specs.Found.{foundOf, answerIn, RunInside, Reaches}
+use Rattle.found.specs.Found.{foundFrom}
+use Rattle.image.specs.Found.{foundOf, answerIn}
 use Rattle.paging.specs.Memory.{segmentsIn}
 use Rattle.paging.specs.Search.{pagesFrom}
 use Rattle.paging.specs.Progress.{progressWords, Holds}
-use Rattle.image.proofs.found.find.Statement.{statement}
-use Rattle.image.proofs.found.find.Tie as tie
+use Rattle.image.proofs.find.find.Statement.{statement}
+use Rattle.image.proofs.find.find.Tie as tie
 
 half : (levels : ℕ) → 1 ≤ levels → spanPages levels / 2 ≡ 2 ^ (9 * levels - 1)
 half levels h =
     let e : 9 * levels ≡ 9 * levels - 1 + 1 = omega arith in
     ap (λ (k : ℕ). 2 ^ k / 2) e ∙ ap (λ (k : ℕ). k / 2) (pow-add 2 (9 * levels - 1) 1) ∙ shl-shr (2 ^ (9 * levels - 1)) 1
 
--- the answer of what was found, as the code has it
+-- the answer of the words of what was found, as the code has it
+found-answer : (w : List ℕ) (x pages : ℕ) (t : Progress) → w ≡ progressWords t
+    → foundFrom (getD w 0 0) (getD w 1 0) (getD w 2 0) (getD w 3 0) x pages ≡ foundOf (answerIn pages t x)
+unfolding foundOf
+found-answer w x pages unfound e = rw e
+found-answer w x pages (running q g h) e = rw e
+found-answer w x pages (stopped q l reserved) e = rw e
+found-answer w x pages (stopped q l outside) e = rw e
+
 same-answer : (levels : ℕ) (f : ℕ → PageState) → 1 ≤ levels → (t : Progress) (x : ℕ) → answerIn (spanPages levels) t x ≡ answerOf (spaceOf levels f) (at-page t x)
 unfolding answerOf halfEnd
 same-answer levels f h unfound x = refl
@@ -38,8 +48,17 @@ slice-aggregate-pass-root c = search needs
 pass-root-requires : tie.Need-pass-root-requires
 pass-root-requires c κs = let s = c .before .before .before .before .before in ((unfound, refl, tt), s .pre .1, s .pre .0, s .pre .2)
 
-slice-aggregate-found-of : tie.Need-slice-aggregate-found-of
-slice-aggregate-found-of c = search needs
+array-read-found-of : tie.Need-array-read-found-of
+array-read-found-of c = search needs
+
+array-read-found-of-2 : tie.Need-array-read-found-of-2
+array-read-found-of-2 c = search needs
+
+array-read-found-of-3 : tie.Need-array-read-found-of-3
+array-read-found-of-3 c = search needs
+
+array-read-found-of-4 : tie.Need-array-read-found-of-4
+array-read-found-of-4 c = search needs
 
 page-count-requires : tie.Need-page-count-requires
 page-count-requires c κs = search needs
@@ -61,24 +80,12 @@ module _ (c : tie.After-pass-root) where
   came : (t : Progress) × (found ≡ progressWords t) × (pass (pages .page) (given .args .page) (pages .size) unfound ≡ at-page t (c .pass-root .result)) × Holds t (c .pass-root .result)
   came = c .pass-root .ensures .1 .0 unfound refl
 
-  run-inside : (t : Progress) → pass (pages .page) (given .args .page) (pages .size) unfound ≡ at-page t (c .pass-root .result) → Holds t (c .pass-root .result)
-      → RunInside t (c .pass-root .result) (spanPages levels)
-  run-inside unfound h o = tt
-  run-inside (stopped q l r) h o = tt
-  run-inside (running q g d) h o = (o .0, ran (pages .page) (given .args .page) (pages .size) q g d (c .pass-root .result) h .before)
-
 -- and its pages
-module _ (c : tie.After-page-count) where
-  abbrev passed : tie.After-pass-root
-  passed = c .before .before .before .before .before
-
-  reaches : Reaches (found passed) (passed .pass-root .result) (c .page-count .result)
-  reaches =
-      let (t, k, h, o) = came passed in
-      (t, k, subst (λ (n : ℕ). RunInside t (passed .pass-root .result) n) (sym (c .page-count .ensures)) (run-inside passed t h o))
+abbrev passed : tie.After-page-count → tie.After-pass-root
+passed c = c .before .before .before .before
 
 found-of-requires : tie.Need-found-of-requires
-found-of-requires c κs = reaches c
+found-of-requires c κs = search needs
 
 same-length : tie.Need-same-length
 same-length c = passed (c .before) .pass-root .ensures .0
@@ -89,7 +96,8 @@ returns c =
     let k = passed n in
     let a = given k .args in
     let (t, e, h, o) = came k in (
-      c .found-of .ensures t e
+      c .found-of .ensures
+          ∙ found-answer (found k) (k .pass-root .result) (n .page-count .result) t e
           ∙ ap foundOf (ap (λ (m : ℕ). answerIn m t (k .pass-root .result)) (n .page-count .ensures)
           ∙ same-answer (levels k) (pages k .page) (omega (arith, few-levels (a .width) .0)) t (k .pass-root .result)
           ∙ ap (answerOf (pages k)) (sym h)
@@ -103,7 +111,10 @@ find-spec =
     (tie.spec
     slice-aggregate-pass-root
     pass-root-requires
-    slice-aggregate-found-of
+    array-read-found-of
+    array-read-found-of-2
+    array-read-found-of-3
+    array-read-found-of-4
     page-count-requires
     found-of-requires
     same-length

@@ -3,8 +3,8 @@ use Prim.Native.Nat.{_≤_, _<_}
 use mathlib.Core.Path.{_∙_}
 use native.Mathlib.Omega.{arith}
 use Rattle.image.proofs.Founds.{after-end, after-run, after-stop, run-bounds, stop-bounds}
-use Rattle.image.proofs.found.next_page.Statement.{statement}
-use Rattle.image.proofs.found.next_page.Tie as tie
+use Rattle.image.proofs.find.next_page.Statement.{statement}
+use Rattle.image.proofs.find.next_page.Tie as tie
 
 returns : tie.Need-returns
 returns c levels page z a e = z ∙ after-end (c .before .args .found) levels page a e (c .if1 .taken)

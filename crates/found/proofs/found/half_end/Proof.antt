@@ -1,7 +1,7 @@
 -- `half_end` is the page after the half that a page is in.
 use borrow.Author.Tests.{lt-ltb, le-ltb}
-use Rattle.image.proofs.found.half_end.Statement.{statement}
-use Rattle.image.proofs.found.half_end.Tie as tie
+use Rattle.found.proofs.found.half_end.Statement.{statement}
+use Rattle.found.proofs.found.half_end.Tie as tie
 
 returns : tie.Need-returns
 returns c = simp (lt-ltb _ _ (c .if1 .taken))
