@@ -3,6 +3,8 @@
 // A virtual and a physical address are types of their own and are never taken for each other. An
 // address handed in whose number is no address is refused first, in argument order: `VirtAddr` is
 // plain data, and nothing but the call itself tests what it holds.
+#![tactic(auto)]
+
 mod virt_addr;
 mod width;
 

@@ -15,10 +15,10 @@ use answer::{
 };
 use table::{IndexAnswer, OffsetAnswer, PageOffset, PageTableLevel};
 
-#[derive(Drop)]
+#[derive(Clone, Copy)]
 pub struct VirtAddr(pub u64);
 
-#[derive(Drop)]
+#[derive(Clone, Copy)]
 pub enum VirtAnswer {
     Addr(VirtAddr),
     None,

@@ -6,7 +6,7 @@ ghost use Rattle.addr.specs.Widths.{width_of};
 // 48 bits with four levels of tables, 57 with five. The names of the source, and all that pages, images
 // and the C interface offer, are at 48 bits; 57 is prepared for boards with five levels, whose fifth
 // index no call gives yet.
-#[derive(Drop)]
+#[derive(Clone, Copy)]
 pub enum Width {
     Bits48,
     Bits57,

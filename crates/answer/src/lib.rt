@@ -1,4 +1,6 @@
 // What a call answers: the numbers of the refusals, and the answers that hold a plain value.
+#![tactic(auto)]
+
 mod answer;
 mod refusal;
 

@@ -14,49 +14,49 @@ use page::{Page, PageRange, PageRangeInclusive};
 use phys::PhysAddr;
 use table::{LevelAnswer, PageSize, PageTableLevel};
 
-#[derive(Drop)]
+#[derive(Clone, Copy)]
 pub enum SizeChoice {
     Size(PageSize),
     None,
 }
 
-#[derive(Drop)]
+#[derive(Clone, Copy)]
 pub enum SizesChoice {
     Sizes(PageSize, PageSize),
     None,
 }
 
-#[derive(Drop)]
+#[derive(Clone, Copy)]
 pub enum FrameChoice {
     Frame(PhysFrame),
     None,
 }
 
-#[derive(Drop)]
+#[derive(Clone, Copy)]
 pub enum FrameRangeChoice {
     Range(PhysFrameRange),
     None,
 }
 
-#[derive(Drop)]
+#[derive(Clone, Copy)]
 pub enum FrameRangeInclusiveChoice {
     Range(PhysFrameRangeInclusive),
     None,
 }
 
-#[derive(Drop)]
+#[derive(Clone, Copy)]
 pub enum PageChoice {
     Page(Page),
     None,
 }
 
-#[derive(Drop)]
+#[derive(Clone, Copy)]
 pub enum PageRangeChoice {
     Range(PageRange),
     None,
 }
 
-#[derive(Drop)]
+#[derive(Clone, Copy)]
 pub enum PageRangeInclusiveChoice {
     Range(PageRangeInclusive),
     None,

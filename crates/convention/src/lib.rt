@@ -1,5 +1,7 @@
 // The convention of the C interface: numbers go in by value, the answer's words are stored in a lent
 // slice, and a status says whether there are any.
+#![tactic(auto)]
+
 mod choose;
 mod images;
 mod ranges;

@@ -9,14 +9,14 @@ ghost use Rattle.draw.specs.Draws.{item_of, draw_of};
 use crate::len::{len_below, len_through};
 use table::PageSize;
 
-#[derive(Drop)]
+#[derive(Clone, Copy)]
 pub enum Item {
     At(u64),
     None,
 }
 
 // The item drawn, and where the range starts and ends after it.
-#[derive(Drop)]
+#[derive(Clone, Copy)]
 pub struct Draw {
     pub item: Item,
     pub start: u64,

@@ -1,5 +1,7 @@
 // Draws from ranges, on plain numbers: what the ranges of pages and of frames share. A range is the
 // number of its start, that of its end, and the size of its items.
+#![tactic(auto)]
+
 mod draw;
 mod len;
 mod next;

@@ -12,7 +12,7 @@ pub const RESERVED: u64 = 2;
 pub const OUTSIDE: u64 = 3;
 
 // An answer: its kind, its page, the first frame of a run or the level of a stop, a run's count, and its rights as three bits.
-#[derive(Drop)]
+#[derive(Clone, Copy)]
 pub struct Found {
     pub kind: u64,
     pub page: u64,

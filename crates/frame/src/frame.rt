@@ -14,13 +14,13 @@ use answer::{
 use phys::{PHYS_SIZE, PhysAddr, PhysAnswer};
 use table::PageSize;
 
-#[derive(Drop)]
+#[derive(Clone, Copy)]
 pub struct PhysFrame {
     pub start_address: PhysAddr,
     pub size: PageSize,
 }
 
-#[derive(Drop)]
+#[derive(Clone, Copy)]
 pub enum FrameAnswer {
     Frame(PhysFrame),
     None,

@@ -1,4 +1,6 @@
 // Physical frames and their ranges: the port of src/structures/paging/frame.rs.
+#![tactic(auto)]
+
 mod draws;
 mod frame;
 mod range;

@@ -13,20 +13,20 @@ use crate::frame::{FrameAnswer, PhysFrame, frames_refusal};
 use answer::{BoolAnswer, U64Answer};
 use draw::{Draw, back_below, front_below, len_below, next_back_below, next_below};
 
-#[derive(Drop)]
+#[derive(Clone, Copy)]
 pub struct PhysFrameRange {
     pub start: PhysFrame,
     pub end: PhysFrame,
 }
 
-#[derive(Drop)]
+#[derive(Clone, Copy)]
 pub enum FrameRangeAnswer {
     Range(PhysFrameRange),
     Refused(u8),
 }
 
 // What a draw answers, and the range left.
-#[derive(Drop)]
+#[derive(Clone, Copy)]
 pub struct FrameDraw {
     pub answer: FrameAnswer,
     pub range: PhysFrameRange,

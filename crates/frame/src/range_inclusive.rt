@@ -13,20 +13,20 @@ use crate::frame::{FrameAnswer, PhysFrame, frames_refusal};
 use answer::{BoolAnswer, U64Answer};
 use draw::{Draw, back_through, front_through, len_through, next_back_through, next_through};
 
-#[derive(Drop)]
+#[derive(Clone, Copy)]
 pub struct PhysFrameRangeInclusive {
     pub start: PhysFrame,
     pub end: PhysFrame,
 }
 
-#[derive(Drop)]
+#[derive(Clone, Copy)]
 pub enum FrameRangeInclusiveAnswer {
     Range(PhysFrameRangeInclusive),
     Refused(u8),
 }
 
 // What a draw answers, and the range left.
-#[derive(Drop)]
+#[derive(Clone, Copy)]
 pub struct FrameDrawInclusive {
     pub answer: FrameAnswer,
     pub range: PhysFrameRangeInclusive,

@@ -1,4 +1,6 @@
 // The search for mapped runs by the tables in a memory image, and lists of searches. An image is lent words, never written; base is the physical address of its first word.
+#![tactic(auto)]
+
 mod find;
 mod list_searches;
 mod lowest;

@@ -19,7 +19,7 @@ use page::Page;
 use phys::PhysAddr;
 use walk::{NO_MASK, Root, image_place, page_count, page_number, search_place};
 
-#[derive(Drop)]
+#[derive(Clone, Copy)]
 pub enum ListAnswer {
     // The search is over, with so many answers written.
     Over(u64),

@@ -15,7 +15,7 @@ use walk::{
     ALL_RIGHTS, Look, Place, TABLE_WORDS, allows, levels, look_word, page_count, table_place,
 };
 
-#[derive(Drop)]
+#[derive(Clone, Copy)]
 pub(crate) enum Lowest {
     // Its place, and the bits that every word above it has.
     At(usize, u64),

@@ -18,13 +18,13 @@ use page::Page;
 use phys::PhysAddr;
 use walk::{NO_MASK, Rights, Root, image_place, page_number, rights_from, search_place};
 
-#[derive(Drop)]
+#[derive(Clone, Copy)]
 pub enum StopReason {
     Reserved,
     Outside,
 }
 
-#[derive(Drop)]
+#[derive(Clone, Copy)]
 pub enum SearchAnswer {
     // No page from there on is mapped or broken.
     End,

@@ -14,7 +14,7 @@ use found::{END, OUTSIDE, RESERVED};
 use walk::{Look, Place, TABLE_WORDS, allows, look_word, rights_bits, table_place, within_span};
 
 // What the search does at an entry.
-#[derive(Drop)]
+#[derive(Clone, Copy)]
 pub(crate) enum Step {
     // It ends here, with what it has found.
     Halt,

@@ -13,14 +13,14 @@ const HEADER_BYTES: usize = 21;
 // The most words that a file may have.
 pub const MOST_WORDS: usize = 7680;
 
-#[derive(Drop)]
+#[derive(Clone, Copy)]
 pub struct Header {
     pub words: u64,
     pub base: u64,
     pub root: u64,
 }
 
-#[derive(Drop)]
+#[derive(Clone, Copy)]
 pub enum HeaderAnswer {
     Header(Header),
     Refused(u8),

@@ -1,4 +1,6 @@
 // The input of the program `runs`, as functions over bytes.
+#![tactic(auto)]
+
 mod input;
 
 pub use input::{Header, HeaderAnswer, MOST_WORDS, read_header, read_words};

@@ -1,4 +1,6 @@
 // Virtual pages and their ranges: the port of src/structures/paging/page.rs.
+#![tactic(auto)]
+
 mod draws;
 mod indices;
 mod page;

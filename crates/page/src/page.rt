@@ -13,13 +13,13 @@ use addr::{VirtAddr, VirtAnswer, Width};
 use answer::U64Answer;
 use table::{IndexAnswer, PageSize, PageTableIndex, PageTableLevel};
 
-#[derive(Drop)]
+#[derive(Clone, Copy)]
 pub struct Page {
     pub start_address: VirtAddr,
     pub size: PageSize,
 }
 
-#[derive(Drop)]
+#[derive(Clone, Copy)]
 pub enum PageAnswer {
     Page(Page),
     None,

@@ -15,20 +15,20 @@ use answer::{BoolAnswer, SIZES_DIFFER, U64Answer};
 use draw::len_below;
 use table::PageSize;
 
-#[derive(Drop)]
+#[derive(Clone, Copy)]
 pub struct PageRange {
     pub start: Page,
     pub end: Page,
 }
 
-#[derive(Drop)]
+#[derive(Clone, Copy)]
 pub enum PageRangeAnswer {
     Range(PageRange),
     Refused(u8),
 }
 
 // What a draw answers, and the range left.
-#[derive(Drop)]
+#[derive(Clone, Copy)]
 pub struct PageDraw {
     pub answer: PageAnswer,
     pub range: PageRange,

@@ -14,20 +14,20 @@ use answer::{BoolAnswer, OVERFLOW, U64Answer};
 use draw::len_through;
 use page_draw::top_page;
 
-#[derive(Drop)]
+#[derive(Clone, Copy)]
 pub struct PageRangeInclusive {
     pub start: Page,
     pub end: Page,
 }
 
-#[derive(Drop)]
+#[derive(Clone, Copy)]
 pub enum PageRangeInclusiveAnswer {
     Range(PageRangeInclusive),
     Refused(u8),
 }
 
 // What a draw answers, and the range left.
-#[derive(Drop)]
+#[derive(Clone, Copy)]
 pub struct PageDrawInclusive {
     pub answer: PageAnswer,
     pub range: PageRangeInclusive,

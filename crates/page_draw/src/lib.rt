@@ -1,4 +1,6 @@
 // Draws of pages on the numbers of a range, at either width, and what refuses them: a start or an end that is no page, sizes that differ, and the gap.
+#![tactic(auto)]
+
 mod gap;
 mod next;
 mod nth;

@@ -11,7 +11,7 @@ use answer::DRAW_MEETS_GAP;
 use draw::{Draw, back_below, back_through, front_below, front_through};
 use table::PageSize;
 
-#[derive(Drop)]
+#[derive(Clone, Copy)]
 pub enum PagesDraw {
     // The page drawn, and where the range starts and ends after it.
     Drawn(Draw),

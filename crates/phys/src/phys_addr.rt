@@ -12,10 +12,10 @@ use answer::{
 // How many physical addresses there are: 2^52.
 pub const PHYS_SIZE: u64 = 0x10_0000_0000_0000;
 
-#[derive(Drop)]
+#[derive(Clone, Copy)]
 pub struct PhysAddr(pub u64);
 
-#[derive(Drop)]
+#[derive(Clone, Copy)]
 pub enum PhysAnswer {
     Addr(PhysAddr),
     Refused(u8),

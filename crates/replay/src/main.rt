@@ -1,5 +1,7 @@
 // Replays recorded answers of the unchanged Rust: reads questions with their answers from standard
 // input, asks the C interface each, and prints how many were asked and how many answers differ.
+#![tactic(auto)]
+
 mod line;
 mod question;
 

@@ -1,4 +1,6 @@
 // Reads an image file from standard input and prints its mapped runs and stops, a line each.
+#![tactic(auto)]
+
 ghost use Rattle.std.specs.Prelude.{◌+◌, ◌*◌, ◌/◌, ◌≤◌, length};
 ghost use Rattle.listing.specs.Text.{line_bytes};
 ghost use Rattle.paging.specs.Search.{answer_words};

@@ -1,4 +1,6 @@
 // The statuses of the C interface, and an answer's words stored in a lent slice.
+#![tactic(auto)]
+
 mod status;
 mod words;
 

@@ -9,10 +9,10 @@ use answer::{INDEX_TOO_LARGE, U64Answer};
 // How many entries a table has.
 pub const ENTRY_COUNT: u16 = 512;
 
-#[derive(Drop)]
+#[derive(Clone, Copy)]
 pub struct PageTableIndex(pub u16);
 
-#[derive(Drop)]
+#[derive(Clone, Copy)]
 pub enum IndexAnswer {
     Index(PageTableIndex),
     None,

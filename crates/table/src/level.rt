@@ -24,7 +24,7 @@ pub(crate) fn span_of(level: usize) -> u64
 }
 
 // From the tables that map 4 KiB pages up to the one that the walk begins with.
-#[derive(Drop)]
+#[derive(Clone, Copy)]
 pub enum PageTableLevel {
     One,
     Two,
@@ -32,7 +32,7 @@ pub enum PageTableLevel {
     Four,
 }
 
-#[derive(Drop)]
+#[derive(Clone, Copy)]
 pub enum LevelAnswer {
     Level(PageTableLevel),
     None,

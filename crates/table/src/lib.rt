@@ -1,5 +1,7 @@
 // Table indices, page offsets, levels and page sizes: the port of what src/structures/paging/
 // page_table.rs says of numbers, with the page sizes of page.rs.
+#![tactic(auto)]
+
 mod index;
 mod level;
 mod offset;

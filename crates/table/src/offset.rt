@@ -6,10 +6,10 @@ ghost use Rattle.table.specs.Index.{small};
 
 use answer::{INDEX_TOO_LARGE, U64Answer};
 
-#[derive(Drop)]
+#[derive(Clone, Copy)]
 pub struct PageOffset(pub u16);
 
-#[derive(Drop)]
+#[derive(Clone, Copy)]
 pub enum OffsetAnswer {
     Offset(PageOffset),
     Refused(u8),

@@ -3,7 +3,7 @@ ghost use Rattle.std.specs.Prelude.{◌≡◌, ◌/◌, ◌%◌};
 ghost use Rattle.table.specs.Level.{power_of, bytes_of};
 
 // The source's three types are one closed choice here, held in each page and frame.
-#[derive(Drop)]
+#[derive(Clone, Copy)]
 pub enum PageSize {
     Size4KiB,
     Size2MiB,

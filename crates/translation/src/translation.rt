@@ -13,7 +13,7 @@ use table::PageSize;
 use walk::{ALL_RIGHTS, NO_MASK, Rights, Root, image_place, levels, page_number, rights_from};
 
 // The number is the level of the entry that decides.
-#[derive(Drop)]
+#[derive(Clone, Copy)]
 pub enum TranslateAnswer {
     Mapped(PhysAddr, PageSize, Rights),
     Absent(u64),

@@ -1,4 +1,6 @@
 // What every walk over the tables in lent words needs: entries, places of tables, and what refuses a root.
+#![tactic(auto)]
+
 mod entry;
 mod look;
 mod memory;

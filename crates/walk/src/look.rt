@@ -7,7 +7,7 @@ use crate::entry::{address_in, frame_in, is_large, is_present};
 use crate::span::within_span;
 
 // An entry that is present comes with its word, which has its rights.
-#[derive(Drop)]
+#[derive(Clone, Copy)]
 pub enum Look {
     Absent,
     Reserved,

@@ -7,7 +7,7 @@ ghost use Rattle.walk.specs.Place.{place_of};
 pub const TABLE_WORDS: usize = 512;
 
 // Where a table begins in the lent words, if it is wholly inside.
-#[derive(Drop)]
+#[derive(Clone, Copy)]
 pub enum Place {
     At(usize),
     Outside,

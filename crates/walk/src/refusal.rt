@@ -12,7 +12,7 @@ use answer::{NOT_ALIGNED, NOT_CANONICAL, NOT_PHYSICAL, ROOT_OUTSIDE};
 use phys::PHYS_SIZE;
 
 // Where the root is, or the number that refuses it.
-#[derive(Drop)]
+#[derive(Clone, Copy)]
 pub enum Root {
     At(usize),
     Refused(u8),

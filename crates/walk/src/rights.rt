@@ -5,7 +5,7 @@ ghost use Rattle.paging.specs.Packed.{rights_bits, rights_from, rights_over};
 ghost use Rattle.walk.specs.Rights.{rights_held};
 
 // Writable and user hold if every level has them, no-execute if some level has it.
-#[derive(Drop)]
+#[derive(Clone, Copy)]
 pub struct Rights {
     pub writable: bool,
     pub user: bool,

@@ -1,5 +1,7 @@
 // The C interface, for the kernel and the bench reader: include/wuohtan.h declares it. Each function
 // here is one call of the library, its arguments and its answer in the convention's form.
+#![tactic(auto)]
+
 pub mod alignment;
 pub mod frame_ranges;
 pub mod frames;
