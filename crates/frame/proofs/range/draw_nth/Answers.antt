@@ -1,0 +1,18 @@
+-- `draw_nth` meets its contract.
+use mathlib.Core.Path.{sym, ap, ◌∙◌}
+use Rattle.laws.specs.Draw as draw
+use Rattle.frame.specs.Range.{drawn_below}
+use Rattle.frame.proofs.Ranges.{settled, nth-refused, nth-settled}
+use Rattle.frame.proofs.range.draw_nth.Goals as goal
+
+pub returns-then-refused-ne0 : goal.returns-then-refused-ne0
+returns-then-refused-ne0 c =
+    let e = c.frames_refusal-refused.ensures in
+    rw e (nth-refused c.args.range c.args.n (λ z. c.if-refused-ne0.true (e ∙ z)))
+
+pub returns : goal.returns
+returns c =
+    let r = c.args.range in
+    c.drawn.ensures
+    ∙ ap (λ (d : draw.Draw). settled drawn_below r.start r.end d) c.front_below-d.ensures
+    ∙ nth-settled r c.args.n (sym c.frames_refusal-refused.ensures ∙ c.if-refused-ne0.false)
