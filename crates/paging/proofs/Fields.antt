@@ -37,8 +37,8 @@ module _ (n v : ℕ) (h : 1 ≤ n) (k : n ≤ 4) where
       rw (rest-low, d) (rw (e, shr-shr v 12 (9 * n)) at f)
 
 -- the frames of an entry are below 2^40
-pub first_frame : (n v : ℕ) → n ≤ 2 → first_frame (n + 1) v + span_pages n ≤ 2 ^ 40
-first_frame n v h =
+pub first_frame_lem : (n v : ℕ) → n ≤ 2 → first_frame (n + 1) v + span_pages n ≤ 2 ^ 40
+first_frame_lem n v h =
     let k = 40 - 9 * n in
     let q = v / 2 ^ (12 + 9 * n) % 2 ^ k in
     let e : n + 1 - 1 ≡ n = omega arith in

@@ -11,7 +11,7 @@ use borrow.Author.Tests.{eqb-true, eqb-false, leb-true}
 use Rattle.mapping.specs.Pages.{Rights, reserved}
 use Rattle.mapping.specs.Walk.{not_present, reserved_bit, maps, table, Walked, absent, broken, mapped, joined, span_pages, word_for, follow, step, walk}
 use Rattle.paging.specs.Entry.{set, rights_of, large, reserves_by, first_frame, table_address, entry_by}
-use Rattle.paging.proofs.Fields.{first_frame}
+use Rattle.paging.proofs.Fields.{first_frame_lem}
 use Rattle.walk.specs.Look.{seen}
 use Rattle.walk.specs.declared.look.Look.{Look}
 use Rattle.walk.specs.declared.look.Look.TheVariants as look
@@ -72,6 +72,6 @@ sound-entry mask n v = go (set 0 v) (reserves_by mask (n + 1) v) (eqb (n + 1) 1 
     go : (p q l : Bool) → (l ≡ true → n ≤ 2) → (l ≡ false → 1 ≤ n)
         → Sound n (seen v (cond p (cond q reserved_bit (cond l (maps (first_frame (n + 1) v) (rights_of v)) (table (table_address v) (rights_of v)))) not_present))
     go true true l f g = tt
-    go true false true f g = (f refl, first_frame n v (f refl))
+    go true false true f g = (f refl, first_frame_lem n v (f refl))
     go true false false f g = g refl
     go false q l f g = tt
