@@ -42,11 +42,13 @@ returns-then-sum-ge-PHYS_SIZE c =
     let x = c.args.self in
     let n = c.args.count in
     let g = times-within n (bytes x) (18446744073709551615 - start x) (pow_pos (power_of x.size)) (omega (arith, c.count.ensures)) in
-    plus-outside (phys 52) (start x) (bytes x) n (sym c.frame_refusal-refused.ensures ∙ c.if-refused-ne0.false) (omega arith) (le-ltb (start x + n * bytes x) (2 ^ 52) (rw c.bytes.ensures at c.if-sum-ge-PHYS_SIZE.true))
+    let s = rw c.bytes.ensures at c.if-sum-ge-PHYS_SIZE.true in
+    plus-outside (phys 52) (start x) (bytes x) n (sym c.frame_refusal-refused.ensures ∙ c.if-refused-ne0.false) (omega arith) (le-ltb (start x + n * bytes x) (2 ^ 52) (omega arith))
 
 pub returns : goal.returns
 returns c =
     let x = c.args.self in
     let n = c.args.count in
     let g = times-within n (bytes x) (18446744073709551615 - start x) (pow_pos (power_of x.size)) (omega (arith, c.count.ensures)) in
-    rw c.bytes.ensures (plus-gives (phys 52) (start x) (bytes x) n (sym c.frame_refusal-refused.ensures ∙ c.if-refused-ne0.false) (omega arith) (lt-ltb (start x + n * bytes x) (2 ^ 52) (rw c.bytes.ensures at c.if-sum-ge-PHYS_SIZE.false)))
+    let s = rw c.bytes.ensures at c.if-sum-ge-PHYS_SIZE.false in
+    rw c.bytes.ensures (plus-gives (phys 52) (start x) (bytes x) n (sym c.frame_refusal-refused.ensures ∙ c.if-refused-ne0.false) (omega arith) (lt-ltb (start x + n * bytes x) (2 ^ 52) (omega arith)))

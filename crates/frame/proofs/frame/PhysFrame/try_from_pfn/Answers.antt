@@ -22,7 +22,7 @@ overflow_mul-result c =
     let z = bytes_of c.args.size in
     let k = power_of c.args.size in
     let w = pow-blocks k 52 (omega (arith, bounds c.args.size)) in
-    let m : c.args.pfn * z < 2 ^ 52 / z * z = mul-lt-mul_of_pos_right (omega (arith, c.count.ensures)) (pow_pos k) in
+    let m : c.args.pfn * z ≤ 2 ^ 52 / z * z = mul-le-mul_right z (omega (arith, c.count.ensures)) in
     rw c.bytes.ensures (omega arith)
 
 pub returns : goal.returns
