@@ -1,5 +1,5 @@
 -- Whoever draws to the end gets each item once, in order, from either end or both: by what one draw gives and leaves.
-use Prim.Native.Nat.{ℕ, ◌+◌, ◌-◌, ◌≤◌}
+use Prim.Native.Nat.{ℕ, ◌-◌, ◌≤◌}
 use mathlib.Core.Path.{◌≡◌, refl, sym, ap, ◌∙◌}
 use mathlib.Core.List.{List, [], ◌∷◌, ◌++◌, reverse, reverse-append, reverse-reverse, append-nil, append_assoc}
 use mathlib.Core.Option.{Option, none, some, map}

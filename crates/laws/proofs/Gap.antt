@@ -3,7 +3,6 @@ use Prim.Native.Nat.{ℕ, zero, suc, ◌+◌, ◌-◌, ◌*◌, ◌/◌, ◌%◌
 use mathlib.Core.Path.{◌≡◌, refl, sym, ◌∙◌}
 use mathlib.Core.Bool.{Bool, true, false, ◌&&◌}
 use mathlib.Core.List.{List, [], ◌∷◌, ◌++◌, reverse, reverse-append, append-nil}
-use mathlib.Core.Option.{some}
 use native.Mathlib.Omega.{arith}
 use native.Mathlib.Decide.{dec_lt}
 use native.Mathlib.Nat.{le-div_iff_mul-le, div-mul-le_self, le_trans, min-eq_left, min-eq_right, max-eq_left, max-eq_right, sub-eq-zero_of_le, zero-div, add-mul, add-div_right, dvd-sub, dvd_of_mod-eq-zero, mod-eq-zero_of_dvd}

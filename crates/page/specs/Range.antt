@@ -1,17 +1,17 @@
 -- What the calls on ranges of pages answer, over the width `w`. A draw answers the page, none or the refusal's number, and the range left; on a refusal that is the
 -- range taken. The sentences are those of document 01, "Ranges".
-use Rattle.std.specs.Prelude.{ℕ, ◌-◌, ◌^◌, ◌≤◌, ◌<◌, ◌≡◌, Bool, cond, List, eqb}
+use Rattle.std.specs.Prelude.{ℕ, ◌≤◌, ◌<◌, ◌≡◌, List, eqb}
 use Rattle.std.proofs.Math.Option.{Option, none, some}
 use Rattle.answer.specs.Outcome.{Outcome, gives, refuses, unless}
 use Rattle.answer.specs.Outcome as outcome
-use Rattle.answer.specs.Refusal.{sizes_differ, draw_meets_gap}
+use Rattle.answer.specs.Refusal.{sizes_differ}
 use Rattle.laws.specs.Run.{len_below, len_through, pages_below, pages_through}
 use Rattle.laws.specs.Draw as draw
 use Rattle.laws.specs.Drawing.{Side, front, back, Drawn}
 use Rattle.laws.specs.Kind.{Kind, drawn, drawn_of}
 use Rattle.table.specs.declared.size.PageSize.{PageSize}
 use Rattle.laws.specs.Address.{virt}
-use Rattle.laws.specs.Item.{item, first_refusal, given_items, items_refusal}
+use Rattle.laws.specs.Item.{item, given_items, items_refusal}
 use Rattle.laws.specs.Range.{Ends, ends}
 use Rattle.page_draw.specs.Draws.{GuardedDraw, nth_below, nth_back_below, nth_through, nth_back_through}
 use Rattle.page.specs.Page.{start, bytes}

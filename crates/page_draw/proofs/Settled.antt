@@ -2,7 +2,7 @@
 use Prim.Native.Nat.{ℕ}
 use mathlib.Core.Path.{◌≡◌, sym, ◌∙◌}
 use mathlib.Core.Bool.{Bool, true, false}
-use Rattle.answer.specs.Outcome.{Outcome, gives, refuses, unless_refused}
+use Rattle.answer.specs.Outcome.{gives, refuses, unless_refused}
 use Rattle.laws.specs.Draw as draw
 use Rattle.laws.specs.Run.{below, through, pages_below, pages_through}
 use Rattle.laws.proofs.Gap.{front_below, back_below, front-through, back-through}

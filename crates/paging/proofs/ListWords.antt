@@ -6,7 +6,6 @@ use native.Mathlib.Omega.{arith}
 use lib.ListN.{length, length-append, take, drop, set}
 use lib.Seq.{sets-eq}
 use Rattle.mapping.specs.Pages.{reserved, outside}
-use Rattle.mapping.specs.Search.{end, stop, run}
 use Rattle.paging.specs.Search.{Report, report_words}
 use Rattle.paging.specs.Search as reports
 use Rattle.paging.specs.List.{all_words}

@@ -1,5 +1,5 @@
 -- The answers of a list of searches, written into lent words.
-use Rattle.std.specs.Prelude.{ℕ, ◌+◌, ◌/◌, true, cond, List, [], ◌∷◌, ◌++◌, map, ◌≡◌, ltb, length, drop}
+use Rattle.std.specs.Prelude.{ℕ, ◌/◌, true, cond, List, [], ◌∷◌, ◌++◌, map, ◌≡◌, ltb, length, drop}
 use Rattle.std.proofs.Math.Option.{Option, none, some}
 use Rattle.answer.specs.Outcome.{Outcome, gives, refuses, unless_refused}
 use Rattle.answer.specs.Outcome as outcome

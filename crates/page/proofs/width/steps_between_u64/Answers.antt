@@ -1,7 +1,6 @@
 -- `steps_between_u64` meets its contract.
 use mathlib.Core.Path.{sym, ◌∙◌}
 use native.Mathlib.Omega.{arith}
-use Rattle.laws.specs.Width.{low}
 use Rattle.laws.proofs.Item.{items_refused}
 use Rattle.laws.specs.Address.{virt}
 use Rattle.addr.specs.Widths.{width_of}

@@ -1,12 +1,6 @@
 -- `sub_page` meets its contract.
-use mathlib.Core.Path.{◌≡◌, sym, ◌∙◌}
-use Prim.Native.Nat.{◌-◌, ◌/◌}
-use lib.Dec.{leb}
-use borrow.Author.Tests.{le-leb, lt-leb}
-use Rattle.answer.specs.Outcome.{gives, refuses, unless}
-use Rattle.answer.specs.Refusal.{overflow}
-use Rattle.laws.proofs.Item.{items_refused, items-given}
-use Rattle.page.specs.Page.{start, bytes}
+use mathlib.Core.Path.{◌∙◌}
+use Rattle.laws.proofs.Item.{items_refused}
 use Rattle.laws.specs.Address.{virt}
 use Rattle.addr.specs.Widths.{width_of}
 use Rattle.page.proofs.width.sub_page.Goals as goal

@@ -1,8 +1,5 @@
 -- `PhysAddr::align_down` meets its contract.
-use mathlib.Core.Logic.{⊎_elim}
-use native.Mathlib.Omega.{arith}
-use borrow.Author.Tests.{lt-ltb, le-ltb}
-use Rattle.phys.proofs.Aligned.{down-refused}
+use borrow.Author.Tests.{le-ltb}
 use Rattle.phys.proofs.phys_addr.PhysAddr.align_down.Goals as goal
 
 pub returns-then-a-ge-PHYS_SIZE : goal.returns-then-a-ge-PHYS_SIZE

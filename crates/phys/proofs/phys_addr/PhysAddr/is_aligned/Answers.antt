@@ -1,6 +1,5 @@
 -- `PhysAddr::is_aligned` meets its contract.
-use borrow.Author.Tests.{lt-ltb, le-ltb}
-use Rattle.align.proofs.Refused.{no-multiple}
+use borrow.Author.Tests.{le-ltb}
 use Rattle.phys.proofs.phys_addr.PhysAddr.is_aligned.Goals as goal
 
 pub returns-then-a-ge-PHYS_SIZE : goal.returns-then-a-ge-PHYS_SIZE
