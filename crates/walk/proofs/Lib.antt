@@ -3,3 +3,4 @@ pub mod Walked
 pub mod Refused
 pub mod Lowest
 pub mod Upper
+pub mod Segments
