@@ -17,6 +17,6 @@ module _ (vs out : List ℕ) where
   unfolding leaves
   words-stored h = simp (le-leb (length vs) (length out) h, sets-eq vs out 0 (omega arith), zero-add)
 
-  pub no_room : length out < length vs → left no_room out ≡ leaves (gives vs) out
+  pub none-stored : length out < length vs → left no_room out ≡ leaves (gives vs) out
   unfolding leaves
-  no_room h = simp (lt-leb (length vs) (length out) h)
+  none-stored h = simp (lt-leb (length vs) (length out) h)

@@ -1,0 +1,10 @@
+-- `give` meets its contract.
+use native.Mathlib.Omega.{arith}
+use Rattle.status.proofs.Stored.{words-stored, none-stored}
+use Rattle.status.proofs.words.give.Goals as goal
+
+pub returns-then-out-lt1 : goal.returns-then-out-lt1
+returns-then-out-lt1 c = none-stored _ _ (omega arith)
+
+pub returns : goal.returns
+returns c = words-stored _ _ (omega arith)
