@@ -1,11 +1,11 @@
 -- Lines grow by one text after another, and hold what they grew by.
 use Prim.Native.Nat.{ℕ, suc, ◌+◌, ◌-◌, ◌<◌, ◌≤◌}
 use mathlib.Core.Path.{◌≡◌, ◌∙◌, sym, ap}
-use mathlib.Core.List.{List, [], ◌∷◌, ◌++◌, append_assoc, append-nil}
+use mathlib.Core.List.{List, [], ◌∷◌, ◌++◌, append_assoc}
 use native.Mathlib.Numerals.{add-one}
 use native.Mathlib.Omega.{arith}
-use lib.ListN.{length, take, get_or, set, replicate, take-append-drop}
-use lib.Seq.{take-suc, take-suc-set, drop-set-lt, drop-drop, length-take-le}
+use lib.ListN.{length, take, set, replicate, take-append-drop}
+use lib.Seq.{take-suc-set, drop-set-lt, drop-drop, length-take-le}
 use Rattle.listing.specs.declared.line.Line.{Line}
 use Rattle.listing.specs.Text.{line_bytes, line_of, text_of}
 use Rattle.listing.specs.Growth.{Longer, ZerosBehind}
@@ -20,19 +20,12 @@ zeros-left bytes n byte h zeros =
     let e : line_bytes - n ≡ suc (line_bytes - (n + 1)) = omega arith in
     rw (drop-set-lt (n + 1) bytes n byte, ← drop-drop 1 n bytes, zeros, e)
 
-pub nothing : (l : Line) → length l.bytes ≡ line_bytes → ZerosBehind l.len l.bytes → Longer 0 l [] l
-nothing l h zeros = record { whole = h; len = omega arith; text = rw append-nil; zeros = zeros }
-
 pub behind : {j k : ℕ} {x y : List ℕ} {l m r : Line} → Longer j l x m → Longer k m y r → Longer (j + k) l (x ++ y) r
 behind g h = record { whole = h.whole; len = omega arith; text = rw (h.text, g.text, append_assoc); zeros = h.zeros }
 
 -- with a looser bound, and the same text in other words
 pub within : {j k : ℕ} {x y : List ℕ} {l r : Line} → j ≤ k → x ≡ y → Longer j l x r → Longer k l y r
 within h e g = record { whole = g.whole; len = omega arith; text = rw (← e) g.text; zeros = g.zeros }
-
--- the next byte of a text after its first `i`
-pub next : {l m r : Line} (text : List ℕ) (i : ℕ) → i < length text → Longer i l (take i text) m → Longer 1 m (get_or text i 0 ∷ []) r → Longer (i + 1) l (take (i + 1) text) r
-next text i h g e = rw (add-one, take-suc text i 0) (rw add-one at (behind g e))
 
 pub holds : {k : ℕ} {text : List ℕ} {l r : Line} → text_of l ≡ [] → l.len + k ≤ line_bytes → Longer k l text r → r ≡ line_of text
 unfolding line_of
