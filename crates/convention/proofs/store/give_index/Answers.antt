@@ -1,0 +1,11 @@
+-- `give_index` meets its contract.
+use Rattle.status.specs.Convention.{leaves}
+use Rattle.convention.proofs.store.give_index.Goals as goal
+
+pub returns-in-None : goal.returns-in-None
+unfolding leaves
+returns-in-None c = rw c.in-None.is
+
+pub returns-in-Refused : goal.returns-in-Refused
+unfolding leaves
+returns-in-Refused c = rw c.in-Refused.is
