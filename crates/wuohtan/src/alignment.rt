@@ -6,15 +6,13 @@ ghost use Rattle.status.specs.Convention.{left, leaves, word};
 use align::{align_down, align_up};
 use convention::give_u64;
 
-#[unsafe(no_mangle)]
-pub extern "C" fn wuohtan_align_down(addr: u64, align: u64, out: &mut [u64]) -> u8
+pub fn wuohtan_align_down(addr: u64, align: u64, out: &mut [u64]) -> u8
     ensures { left result out.new ≡ leaves (word (align_down addr align)) out.old }
 {
     give_u64(align_down(addr, align), out)
 }
 
-#[unsafe(no_mangle)]
-pub extern "C" fn wuohtan_align_up(addr: u64, align: u64, out: &mut [u64]) -> u8
+pub fn wuohtan_align_up(addr: u64, align: u64, out: &mut [u64]) -> u8
     ensures { left result out.new ≡ leaves (word (align_up addr align)) out.old }
 {
     give_u64(align_up(addr, align), out)

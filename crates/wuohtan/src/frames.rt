@@ -15,12 +15,7 @@ use frame::PhysFrame;
 use phys::PhysAddr;
 use status::NO_SUCH_CHOICE;
 
-#[unsafe(no_mangle)]
-pub extern "C" fn wuohtan_phys_frame_from_start_address(
-    address: u64,
-    size: u64,
-    out: &mut [u64],
-) -> u8
+pub fn wuohtan_phys_frame_from_start_address(address: u64, size: u64, out: &mut [u64]) -> u8
     ensures { left result out.new ≡ leaves (of_size size (start_word (from_start (phys 52) address size))) out.old }
 {
     let SizeChoice::Size(s) = choose_size(size) else {
@@ -29,8 +24,7 @@ pub extern "C" fn wuohtan_phys_frame_from_start_address(
     give_frame(PhysFrame::from_start_address(PhysAddr(address), s), out)
 }
 
-#[unsafe(no_mangle)]
-pub extern "C" fn wuohtan_phys_frame_from_pfn(pfn: u64, size: u64, out: &mut [u64]) -> u8
+pub fn wuohtan_phys_frame_from_pfn(pfn: u64, size: u64, out: &mut [u64]) -> u8
     ensures { left result out.new ≡ leaves (of_size size (start_word (from_pfn pfn size))) out.old }
 {
     let SizeChoice::Size(s) = choose_size(size) else {
@@ -39,8 +33,7 @@ pub extern "C" fn wuohtan_phys_frame_from_pfn(pfn: u64, size: u64, out: &mut [u6
     give_frame(PhysFrame::from_pfn(pfn, s), out)
 }
 
-#[unsafe(no_mangle)]
-pub extern "C" fn wuohtan_phys_frame_try_from_pfn(pfn: u64, size: u64, out: &mut [u64]) -> u8
+pub fn wuohtan_phys_frame_try_from_pfn(pfn: u64, size: u64, out: &mut [u64]) -> u8
     ensures { left result out.new ≡ leaves (of_size size (start_word (from_pfn pfn size))) out.old }
 {
     let SizeChoice::Size(s) = choose_size(size) else {
@@ -49,12 +42,7 @@ pub extern "C" fn wuohtan_phys_frame_try_from_pfn(pfn: u64, size: u64, out: &mut
     give_frame(PhysFrame::try_from_pfn(pfn, s), out)
 }
 
-#[unsafe(no_mangle)]
-pub extern "C" fn wuohtan_phys_frame_containing_address(
-    address: u64,
-    size: u64,
-    out: &mut [u64],
-) -> u8
+pub fn wuohtan_phys_frame_containing_address(address: u64, size: u64, out: &mut [u64]) -> u8
     ensures { left result out.new ≡ leaves (of_size size (start_word (containing (phys 52) address size))) out.old }
 {
     let SizeChoice::Size(s) = choose_size(size) else {
@@ -63,8 +51,7 @@ pub extern "C" fn wuohtan_phys_frame_containing_address(
     give_frame(PhysFrame::containing_address(PhysAddr(address), s), out)
 }
 
-#[unsafe(no_mangle)]
-pub extern "C" fn wuohtan_phys_frame_start_address(start: u64, size: u64, out: &mut [u64]) -> u8
+pub fn wuohtan_phys_frame_start_address(start: u64, size: u64, out: &mut [u64]) -> u8
     ensures { left result out.new ≡ leaves (of_size size (word (start_of (phys 52) start size))) out.old }
 {
     let FrameChoice::Frame(frame) = choose_frame(start, size) else {
@@ -73,8 +60,7 @@ pub extern "C" fn wuohtan_phys_frame_start_address(start: u64, size: u64, out: &
     give_phys(frame.start_address(), out)
 }
 
-#[unsafe(no_mangle)]
-pub extern "C" fn wuohtan_phys_frame_size(start: u64, size: u64, out: &mut [u64]) -> u8
+pub fn wuohtan_phys_frame_size(start: u64, size: u64, out: &mut [u64]) -> u8
     ensures { left result out.new ≡ leaves (of_size size (word (size_of (phys 52) start size))) out.old }
 {
     let FrameChoice::Frame(frame) = choose_frame(start, size) else {
@@ -83,8 +69,7 @@ pub extern "C" fn wuohtan_phys_frame_size(start: u64, size: u64, out: &mut [u64]
     give_u64(frame.size(), out)
 }
 
-#[unsafe(no_mangle)]
-pub extern "C" fn wuohtan_phys_frame_pfn(start: u64, size: u64, out: &mut [u64]) -> u8
+pub fn wuohtan_phys_frame_pfn(start: u64, size: u64, out: &mut [u64]) -> u8
     ensures { left result out.new ≡ leaves (of_size size (word (pfn_of start size))) out.old }
 {
     let FrameChoice::Frame(frame) = choose_frame(start, size) else {
@@ -93,8 +78,7 @@ pub extern "C" fn wuohtan_phys_frame_pfn(start: u64, size: u64, out: &mut [u64])
     give_u64(frame.pfn(), out)
 }
 
-#[unsafe(no_mangle)]
-pub extern "C" fn wuohtan_phys_frame_add(start: u64, size: u64, count: u64, out: &mut [u64]) -> u8
+pub fn wuohtan_phys_frame_add(start: u64, size: u64, count: u64, out: &mut [u64]) -> u8
     ensures { left result out.new ≡ leaves (of_size size (start_word (plus_item (phys 52) start size count))) out.old }
 {
     let FrameChoice::Frame(frame) = choose_frame(start, size) else {
@@ -103,8 +87,7 @@ pub extern "C" fn wuohtan_phys_frame_add(start: u64, size: u64, count: u64, out:
     give_frame(frame.add(count), out)
 }
 
-#[unsafe(no_mangle)]
-pub extern "C" fn wuohtan_phys_frame_sub(start: u64, size: u64, count: u64, out: &mut [u64]) -> u8
+pub fn wuohtan_phys_frame_sub(start: u64, size: u64, count: u64, out: &mut [u64]) -> u8
     ensures { left result out.new ≡ leaves (of_size size (start_word (minus_item (phys 52) start size count))) out.old }
 {
     let FrameChoice::Frame(frame) = choose_frame(start, size) else {
@@ -113,8 +96,7 @@ pub extern "C" fn wuohtan_phys_frame_sub(start: u64, size: u64, count: u64, out:
     give_frame(frame.sub(count), out)
 }
 
-#[unsafe(no_mangle)]
-pub extern "C" fn wuohtan_phys_frame_sub_frame(
+pub fn wuohtan_phys_frame_sub_frame(
     start: u64,
     size: u64,
     other: u64,

@@ -13,14 +13,7 @@ use phys::PhysAddr;
 use status::NO_ROOM;
 use translation::translate;
 
-#[unsafe(no_mangle)]
-pub extern "C" fn wuohtan_translate(
-    image: &[u64],
-    base: u64,
-    root: u64,
-    addr: u64,
-    out: &mut [u64],
-) -> u8
+pub fn wuohtan_translate(image: &[u64], base: u64, root: u64, addr: u64, out: &mut [u64]) -> u8
     ensures { left result out.new ≡ leaves (translation_words (translation 48 4 image.now base root addr)) out.old }
 {
     give_translation(
@@ -29,14 +22,7 @@ pub extern "C" fn wuohtan_translate(
     )
 }
 
-#[unsafe(no_mangle)]
-pub extern "C" fn wuohtan_search(
-    image: &[u64],
-    base: u64,
-    root: u64,
-    page: u64,
-    out: &mut [u64],
-) -> u8
+pub fn wuohtan_search(image: &[u64], base: u64, root: u64, page: u64, out: &mut [u64]) -> u8
     ensures { left result out.new ≡ leaves (search_words (searching 48 4 image.now base root page)) out.old }
 {
     give_search(
@@ -46,8 +32,7 @@ pub extern "C" fn wuohtan_search(
 }
 
 // The answers go to their own words, five for each; which tables hold nothing is remembered in bytes.
-#[unsafe(no_mangle)]
-pub extern "C" fn wuohtan_list(
+pub fn wuohtan_list(
     image: &[u64],
     base: u64,
     root: u64,

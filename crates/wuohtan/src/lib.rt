@@ -1,5 +1,6 @@
-// The C interface, for the kernel and the bench reader: include/wuohtan.h declares it. Each function
-// here is one call of the library, its arguments and its answer in the convention's form.
+// The calls of the C interface, for the kernel and the bench reader: include/wuohtan.h declares them,
+// and the crate wuohtan_c exports them. Each function here is one call of the library, its arguments
+// and its answer in the convention's form.
 #![tactic(auto)]
 
 pub mod alignment;

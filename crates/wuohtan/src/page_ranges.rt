@@ -18,8 +18,7 @@ use page::{
 };
 use status::NO_SUCH_CHOICE;
 
-#[unsafe(no_mangle)]
-pub extern "C" fn wuohtan_page_range_new(
+pub fn wuohtan_page_range_new(
     start: u64,
     start_size: u64,
     end: u64,
@@ -36,8 +35,7 @@ pub extern "C" fn wuohtan_page_range_new(
     give_page_range(Page::range(first, last), out)
 }
 
-#[unsafe(no_mangle)]
-pub extern "C" fn wuohtan_page_range_is_empty(
+pub fn wuohtan_page_range_is_empty(
     start: u64,
     start_size: u64,
     end: u64,
@@ -52,8 +50,7 @@ pub extern "C" fn wuohtan_page_range_is_empty(
     give_bool(range.is_empty(), out)
 }
 
-#[unsafe(no_mangle)]
-pub extern "C" fn wuohtan_page_range_len(
+pub fn wuohtan_page_range_len(
     start: u64,
     start_size: u64,
     end: u64,
@@ -68,8 +65,7 @@ pub extern "C" fn wuohtan_page_range_len(
     give_u64(range.len(), out)
 }
 
-#[unsafe(no_mangle)]
-pub extern "C" fn wuohtan_page_range_size(
+pub fn wuohtan_page_range_size(
     start: u64,
     start_size: u64,
     end: u64,
@@ -84,8 +80,7 @@ pub extern "C" fn wuohtan_page_range_size(
     give_u64(range.size(), out)
 }
 
-#[unsafe(no_mangle)]
-pub extern "C" fn wuohtan_page_range_next(
+pub fn wuohtan_page_range_next(
     start: u64,
     start_size: u64,
     end: u64,
@@ -100,8 +95,7 @@ pub extern "C" fn wuohtan_page_range_next(
     give_page_draw(draw_next(range), out)
 }
 
-#[unsafe(no_mangle)]
-pub extern "C" fn wuohtan_page_range_nth(
+pub fn wuohtan_page_range_nth(
     start: u64,
     start_size: u64,
     end: u64,
@@ -117,8 +111,7 @@ pub extern "C" fn wuohtan_page_range_nth(
     give_page_draw(draw_nth(range, n), out)
 }
 
-#[unsafe(no_mangle)]
-pub extern "C" fn wuohtan_page_range_next_back(
+pub fn wuohtan_page_range_next_back(
     start: u64,
     start_size: u64,
     end: u64,
@@ -133,8 +126,7 @@ pub extern "C" fn wuohtan_page_range_next_back(
     give_page_draw(draw_next_back(range), out)
 }
 
-#[unsafe(no_mangle)]
-pub extern "C" fn wuohtan_page_range_nth_back(
+pub fn wuohtan_page_range_nth_back(
     start: u64,
     start_size: u64,
     end: u64,
@@ -150,8 +142,7 @@ pub extern "C" fn wuohtan_page_range_nth_back(
     give_page_draw(draw_nth_back(range, n), out)
 }
 
-#[unsafe(no_mangle)]
-pub extern "C" fn wuohtan_page_range_as_4kib_page_range(
+pub fn wuohtan_page_range_as_4kib_page_range(
     start: u64,
     start_size: u64,
     end: u64,
@@ -166,8 +157,7 @@ pub extern "C" fn wuohtan_page_range_as_4kib_page_range(
     give_page_range(range.as_4kib_page_range(), out)
 }
 
-#[unsafe(no_mangle)]
-pub extern "C" fn wuohtan_page_range_inclusive_new(
+pub fn wuohtan_page_range_inclusive_new(
     start: u64,
     start_size: u64,
     end: u64,
@@ -186,8 +176,7 @@ pub extern "C" fn wuohtan_page_range_inclusive_new(
     give_page_range_inclusive(Page::range_inclusive(first, last), out)
 }
 
-#[unsafe(no_mangle)]
-pub extern "C" fn wuohtan_page_range_inclusive_is_empty(
+pub fn wuohtan_page_range_inclusive_is_empty(
     start: u64,
     start_size: u64,
     end: u64,
@@ -204,8 +193,7 @@ pub extern "C" fn wuohtan_page_range_inclusive_is_empty(
     give_bool(range.is_empty(), out)
 }
 
-#[unsafe(no_mangle)]
-pub extern "C" fn wuohtan_page_range_inclusive_len(
+pub fn wuohtan_page_range_inclusive_len(
     start: u64,
     start_size: u64,
     end: u64,
@@ -222,8 +210,7 @@ pub extern "C" fn wuohtan_page_range_inclusive_len(
     give_u64(range.len(), out)
 }
 
-#[unsafe(no_mangle)]
-pub extern "C" fn wuohtan_page_range_inclusive_size(
+pub fn wuohtan_page_range_inclusive_size(
     start: u64,
     start_size: u64,
     end: u64,
@@ -240,8 +227,7 @@ pub extern "C" fn wuohtan_page_range_inclusive_size(
     give_u64(range.size(), out)
 }
 
-#[unsafe(no_mangle)]
-pub extern "C" fn wuohtan_page_range_inclusive_next(
+pub fn wuohtan_page_range_inclusive_next(
     start: u64,
     start_size: u64,
     end: u64,
@@ -258,8 +244,7 @@ pub extern "C" fn wuohtan_page_range_inclusive_next(
     give_page_draw_inclusive(draw_next_inclusive(range), out)
 }
 
-#[unsafe(no_mangle)]
-pub extern "C" fn wuohtan_page_range_inclusive_nth(
+pub fn wuohtan_page_range_inclusive_nth(
     start: u64,
     start_size: u64,
     end: u64,
@@ -277,8 +262,7 @@ pub extern "C" fn wuohtan_page_range_inclusive_nth(
     give_page_draw_inclusive(draw_nth_inclusive(range, n), out)
 }
 
-#[unsafe(no_mangle)]
-pub extern "C" fn wuohtan_page_range_inclusive_next_back(
+pub fn wuohtan_page_range_inclusive_next_back(
     start: u64,
     start_size: u64,
     end: u64,
@@ -295,8 +279,7 @@ pub extern "C" fn wuohtan_page_range_inclusive_next_back(
     give_page_draw_inclusive(draw_next_back_inclusive(range), out)
 }
 
-#[unsafe(no_mangle)]
-pub extern "C" fn wuohtan_page_range_inclusive_nth_back(
+pub fn wuohtan_page_range_inclusive_nth_back(
     start: u64,
     start_size: u64,
     end: u64,

@@ -16,8 +16,7 @@ use page::Page;
 use status::NO_SUCH_CHOICE;
 use table::{LevelAnswer, PageTableIndex};
 
-#[unsafe(no_mangle)]
-pub extern "C" fn wuohtan_page_from_start_address(address: u64, size: u64, out: &mut [u64]) -> u8
+pub fn wuohtan_page_from_start_address(address: u64, size: u64, out: &mut [u64]) -> u8
     ensures { left result out.new ≡ leaves (of_size size (start_word (from_start (virt 48) address size))) out.old }
 {
     let SizeChoice::Size(s) = choose_size(size) else {
@@ -26,8 +25,7 @@ pub extern "C" fn wuohtan_page_from_start_address(address: u64, size: u64, out: 
     give_page(Page::from_start_address(VirtAddr(address), s), out)
 }
 
-#[unsafe(no_mangle)]
-pub extern "C" fn wuohtan_page_containing_address(address: u64, size: u64, out: &mut [u64]) -> u8
+pub fn wuohtan_page_containing_address(address: u64, size: u64, out: &mut [u64]) -> u8
     ensures { left result out.new ≡ leaves (of_size size (start_word (containing (virt 48) address size))) out.old }
 {
     let SizeChoice::Size(s) = choose_size(size) else {
@@ -36,8 +34,7 @@ pub extern "C" fn wuohtan_page_containing_address(address: u64, size: u64, out: 
     give_page(Page::containing_address(VirtAddr(address), s), out)
 }
 
-#[unsafe(no_mangle)]
-pub extern "C" fn wuohtan_page_start_address(start: u64, size: u64, out: &mut [u64]) -> u8
+pub fn wuohtan_page_start_address(start: u64, size: u64, out: &mut [u64]) -> u8
     ensures { left result out.new ≡ leaves (of_size size (word (start_of (virt 48) start size))) out.old }
 {
     let PageChoice::Page(page) = choose_page(start, size) else {
@@ -46,8 +43,7 @@ pub extern "C" fn wuohtan_page_start_address(start: u64, size: u64, out: &mut [u
     give_virt(page.start_address(), out)
 }
 
-#[unsafe(no_mangle)]
-pub extern "C" fn wuohtan_page_size(start: u64, size: u64, out: &mut [u64]) -> u8
+pub fn wuohtan_page_size(start: u64, size: u64, out: &mut [u64]) -> u8
     ensures { left result out.new ≡ leaves (of_size size (word (size_of (virt 48) start size))) out.old }
 {
     let PageChoice::Page(page) = choose_page(start, size) else {
@@ -56,8 +52,7 @@ pub extern "C" fn wuohtan_page_size(start: u64, size: u64, out: &mut [u64]) -> u
     give_u64(page.size(), out)
 }
 
-#[unsafe(no_mangle)]
-pub extern "C" fn wuohtan_page_p1_index(start: u64, size: u64, out: &mut [u64]) -> u8
+pub fn wuohtan_page_p1_index(start: u64, size: u64, out: &mut [u64]) -> u8
     ensures { left result out.new ≡ leaves (of_size size (word (own_index 48 start size 1))) out.old }
 {
     let PageChoice::Page(page) = choose_page(start, size) else {
@@ -66,8 +61,7 @@ pub extern "C" fn wuohtan_page_p1_index(start: u64, size: u64, out: &mut [u64]) 
     give_index(page.p1_index(), out)
 }
 
-#[unsafe(no_mangle)]
-pub extern "C" fn wuohtan_page_p2_index(start: u64, size: u64, out: &mut [u64]) -> u8
+pub fn wuohtan_page_p2_index(start: u64, size: u64, out: &mut [u64]) -> u8
     ensures { left result out.new ≡ leaves (of_size size (word (own_index 48 start size 2))) out.old }
 {
     let PageChoice::Page(page) = choose_page(start, size) else {
@@ -76,8 +70,7 @@ pub extern "C" fn wuohtan_page_p2_index(start: u64, size: u64, out: &mut [u64]) 
     give_index(page.p2_index(), out)
 }
 
-#[unsafe(no_mangle)]
-pub extern "C" fn wuohtan_page_p3_index(start: u64, size: u64, out: &mut [u64]) -> u8
+pub fn wuohtan_page_p3_index(start: u64, size: u64, out: &mut [u64]) -> u8
     ensures { left result out.new ≡ leaves (of_size size (word (page_index 48 start size 3))) out.old }
 {
     let PageChoice::Page(page) = choose_page(start, size) else {
@@ -86,8 +79,7 @@ pub extern "C" fn wuohtan_page_p3_index(start: u64, size: u64, out: &mut [u64]) 
     give_index(page.p3_index(), out)
 }
 
-#[unsafe(no_mangle)]
-pub extern "C" fn wuohtan_page_p4_index(start: u64, size: u64, out: &mut [u64]) -> u8
+pub fn wuohtan_page_p4_index(start: u64, size: u64, out: &mut [u64]) -> u8
     ensures { left result out.new ≡ leaves (of_size size (word (page_index 48 start size 4))) out.old }
 {
     let PageChoice::Page(page) = choose_page(start, size) else {
@@ -96,13 +88,7 @@ pub extern "C" fn wuohtan_page_p4_index(start: u64, size: u64, out: &mut [u64]) 
     give_index(page.p4_index(), out)
 }
 
-#[unsafe(no_mangle)]
-pub extern "C" fn wuohtan_page_page_table_index(
-    start: u64,
-    size: u64,
-    level: u64,
-    out: &mut [u64],
-) -> u8
+pub fn wuohtan_page_page_table_index(start: u64, size: u64, level: u64, out: &mut [u64]) -> u8
     ensures { left result out.new ≡ leaves (of_size size (at_level level (word (page_index 48 start size level)))) out.old }
 {
     let PageChoice::Page(page) = choose_page(start, size) else {
@@ -114,8 +100,7 @@ pub extern "C" fn wuohtan_page_page_table_index(
     give_index(page.page_table_index(l), out)
 }
 
-#[unsafe(no_mangle)]
-pub extern "C" fn wuohtan_page_from_page_table_indices(
+pub fn wuohtan_page_from_page_table_indices(
     p4_index: u64,
     p3_index: u64,
     p2_index: u64,
@@ -131,8 +116,7 @@ pub extern "C" fn wuohtan_page_from_page_table_indices(
     give_page(Page::from_page_table_indices(p4, p3, p2, p1), out)
 }
 
-#[unsafe(no_mangle)]
-pub extern "C" fn wuohtan_page_from_page_table_indices_2mib(
+pub fn wuohtan_page_from_page_table_indices_2mib(
     p4_index: u64,
     p3_index: u64,
     p2_index: u64,
@@ -146,8 +130,7 @@ pub extern "C" fn wuohtan_page_from_page_table_indices_2mib(
     give_page(Page::from_page_table_indices_2mib(p4, p3, p2), out)
 }
 
-#[unsafe(no_mangle)]
-pub extern "C" fn wuohtan_page_from_page_table_indices_1gib(
+pub fn wuohtan_page_from_page_table_indices_1gib(
     p4_index: u64,
     p3_index: u64,
     out: &mut [u64],
@@ -159,8 +142,7 @@ pub extern "C" fn wuohtan_page_from_page_table_indices_1gib(
     give_page(Page::from_page_table_indices_1gib(p4, p3), out)
 }
 
-#[unsafe(no_mangle)]
-pub extern "C" fn wuohtan_page_add(start: u64, size: u64, count: u64, out: &mut [u64]) -> u8
+pub fn wuohtan_page_add(start: u64, size: u64, count: u64, out: &mut [u64]) -> u8
     ensures { left result out.new ≡ leaves (of_size size (start_word (plus_item (virt 48) start size count))) out.old }
 {
     let PageChoice::Page(page) = choose_page(start, size) else {
@@ -169,8 +151,7 @@ pub extern "C" fn wuohtan_page_add(start: u64, size: u64, count: u64, out: &mut 
     give_page(page.add(count), out)
 }
 
-#[unsafe(no_mangle)]
-pub extern "C" fn wuohtan_page_sub(start: u64, size: u64, count: u64, out: &mut [u64]) -> u8
+pub fn wuohtan_page_sub(start: u64, size: u64, count: u64, out: &mut [u64]) -> u8
     ensures { left result out.new ≡ leaves (of_size size (start_word (minus_item (virt 48) start size count))) out.old }
 {
     let PageChoice::Page(page) = choose_page(start, size) else {
@@ -179,8 +160,7 @@ pub extern "C" fn wuohtan_page_sub(start: u64, size: u64, count: u64, out: &mut 
     give_page(page.sub(count), out)
 }
 
-#[unsafe(no_mangle)]
-pub extern "C" fn wuohtan_page_sub_page(
+pub fn wuohtan_page_sub_page(
     start: u64,
     size: u64,
     other: u64,
@@ -197,13 +177,7 @@ pub extern "C" fn wuohtan_page_sub_page(
     give_u64(page.sub_page(other_page), out)
 }
 
-#[unsafe(no_mangle)]
-pub extern "C" fn wuohtan_page_forward_checked(
-    start: u64,
-    size: u64,
-    count: u64,
-    out: &mut [u64],
-) -> u8
+pub fn wuohtan_page_forward_checked(start: u64, size: u64, count: u64, out: &mut [u64]) -> u8
     ensures { left result out.new ≡ leaves (of_size size (start_word (page_forward 48 start size count))) out.old }
 {
     let PageChoice::Page(page) = choose_page(start, size) else {
@@ -212,13 +186,7 @@ pub extern "C" fn wuohtan_page_forward_checked(
     give_page(Page::forward_checked(page, count), out)
 }
 
-#[unsafe(no_mangle)]
-pub extern "C" fn wuohtan_page_backward_checked(
-    start: u64,
-    size: u64,
-    count: u64,
-    out: &mut [u64],
-) -> u8
+pub fn wuohtan_page_backward_checked(start: u64, size: u64, count: u64, out: &mut [u64]) -> u8
     ensures { left result out.new ≡ leaves (of_size size (start_word (page_backward 48 start size count))) out.old }
 {
     let PageChoice::Page(page) = choose_page(start, size) else {
@@ -227,8 +195,7 @@ pub extern "C" fn wuohtan_page_backward_checked(
     give_page(Page::backward_checked(page, count), out)
 }
 
-#[unsafe(no_mangle)]
-pub extern "C" fn wuohtan_page_steps_between_u64(
+pub fn wuohtan_page_steps_between_u64(
     start: u64,
     size: u64,
     end: u64,

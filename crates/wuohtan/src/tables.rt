@@ -11,58 +11,40 @@ use convention::{choose_level, give_index, give_level, give_offset, give_u64, sa
 use status::{NO_SUCH_CHOICE, give};
 use table::{LevelAnswer, PageOffset, PageTableIndex};
 
-#[unsafe(no_mangle)]
-pub extern "C" fn wuohtan_page_table_index_new(index: u64, out: &mut [u64]) -> u8
+pub fn wuohtan_page_table_index_new(index: u64, out: &mut [u64]) -> u8
     ensures { left result out.new ≡ leaves (word (small 512 index)) out.old }
 {
     give_index(PageTableIndex::new(index), out)
 }
 
-#[unsafe(no_mangle)]
-pub extern "C" fn wuohtan_page_table_index_new_truncate(index: u64, out: &mut [u64]) -> u8
+pub fn wuohtan_page_table_index_new_truncate(index: u64, out: &mut [u64]) -> u8
     ensures { left result out.new ≡ leaves (gives (index % 512 ∷ [])) out.old }
 {
     give(PageTableIndex::new_truncate(index).0 as u64, out)
 }
 
-#[unsafe(no_mangle)]
-pub extern "C" fn wuohtan_page_table_index_into_u64(index: u64, out: &mut [u64]) -> u8
+pub fn wuohtan_page_table_index_into_u64(index: u64, out: &mut [u64]) -> u8
     ensures { left result out.new ≡ leaves (word (small 512 index)) out.old }
 {
     let i = PageTableIndex(saturated(index));
     give_u64(i.into_u64(), out)
 }
 
-#[unsafe(no_mangle)]
-pub extern "C" fn wuohtan_page_table_index_forward_checked(
-    start: u64,
-    count: u64,
-    out: &mut [u64],
-) -> u8
+pub fn wuohtan_page_table_index_forward_checked(start: u64, count: u64, out: &mut [u64]) -> u8
     ensures { left result out.new ≡ leaves (word (index_forward start count)) out.old }
 {
     let i = PageTableIndex(saturated(start));
     give_index(PageTableIndex::forward_checked(i, count), out)
 }
 
-#[unsafe(no_mangle)]
-pub extern "C" fn wuohtan_page_table_index_backward_checked(
-    start: u64,
-    count: u64,
-    out: &mut [u64],
-) -> u8
+pub fn wuohtan_page_table_index_backward_checked(start: u64, count: u64, out: &mut [u64]) -> u8
     ensures { left result out.new ≡ leaves (word (index_backward start count)) out.old }
 {
     let i = PageTableIndex(saturated(start));
     give_index(PageTableIndex::backward_checked(i, count), out)
 }
 
-#[unsafe(no_mangle)]
-pub extern "C" fn wuohtan_page_table_index_steps_between(
-    start: u64,
-    end: u64,
-    out: &mut [u64],
-) -> u8
+pub fn wuohtan_page_table_index_steps_between(start: u64, end: u64, out: &mut [u64]) -> u8
     ensures { left result out.new ≡ leaves (word (index_steps start end)) out.old }
 {
     let i = PageTableIndex(saturated(start));
@@ -70,30 +52,26 @@ pub extern "C" fn wuohtan_page_table_index_steps_between(
     give_u64(PageTableIndex::steps_between(i, j), out)
 }
 
-#[unsafe(no_mangle)]
-pub extern "C" fn wuohtan_page_offset_new(offset: u64, out: &mut [u64]) -> u8
+pub fn wuohtan_page_offset_new(offset: u64, out: &mut [u64]) -> u8
     ensures { left result out.new ≡ leaves (word (small 4096 offset)) out.old }
 {
     give_offset(PageOffset::new(offset), out)
 }
 
-#[unsafe(no_mangle)]
-pub extern "C" fn wuohtan_page_offset_new_truncate(offset: u64, out: &mut [u64]) -> u8
+pub fn wuohtan_page_offset_new_truncate(offset: u64, out: &mut [u64]) -> u8
     ensures { left result out.new ≡ leaves (gives (offset % 4096 ∷ [])) out.old }
 {
     give(PageOffset::new_truncate(offset).0 as u64, out)
 }
 
-#[unsafe(no_mangle)]
-pub extern "C" fn wuohtan_page_offset_into_u64(offset: u64, out: &mut [u64]) -> u8
+pub fn wuohtan_page_offset_into_u64(offset: u64, out: &mut [u64]) -> u8
     ensures { left result out.new ≡ leaves (word (small 4096 offset)) out.old }
 {
     let o = PageOffset(saturated(offset));
     give_u64(o.into_u64(), out)
 }
 
-#[unsafe(no_mangle)]
-pub extern "C" fn wuohtan_page_table_level_next_lower_level(level: u64, out: &mut [u64]) -> u8
+pub fn wuohtan_page_table_level_next_lower_level(level: u64, out: &mut [u64]) -> u8
     ensures { left result out.new ≡ leaves (at_level level (word (lower level))) out.old }
 {
     let LevelAnswer::Level(l) = choose_level(level) else {
@@ -102,8 +80,7 @@ pub extern "C" fn wuohtan_page_table_level_next_lower_level(level: u64, out: &mu
     give_level(l.next_lower_level(), out)
 }
 
-#[unsafe(no_mangle)]
-pub extern "C" fn wuohtan_page_table_level_next_higher_level(level: u64, out: &mut [u64]) -> u8
+pub fn wuohtan_page_table_level_next_higher_level(level: u64, out: &mut [u64]) -> u8
     ensures { left result out.new ≡ leaves (at_level level (word (higher 4 level))) out.old }
 {
     let LevelAnswer::Level(l) = choose_level(level) else {
@@ -112,11 +89,7 @@ pub extern "C" fn wuohtan_page_table_level_next_higher_level(level: u64, out: &m
     give_level(l.next_higher_level(), out)
 }
 
-#[unsafe(no_mangle)]
-pub extern "C" fn wuohtan_page_table_level_table_address_space_alignment(
-    level: u64,
-    out: &mut [u64],
-) -> u8
+pub fn wuohtan_page_table_level_table_address_space_alignment(level: u64, out: &mut [u64]) -> u8
     ensures { left result out.new ≡ leaves (at_level level (gives (span level ∷ []))) out.old }
 {
     let LevelAnswer::Level(l) = choose_level(level) else {
@@ -125,11 +98,7 @@ pub extern "C" fn wuohtan_page_table_level_table_address_space_alignment(
     give(l.table_address_space_alignment(), out)
 }
 
-#[unsafe(no_mangle)]
-pub extern "C" fn wuohtan_page_table_level_entry_address_space_alignment(
-    level: u64,
-    out: &mut [u64],
-) -> u8
+pub fn wuohtan_page_table_level_entry_address_space_alignment(level: u64, out: &mut [u64]) -> u8
     ensures { left result out.new ≡ leaves (at_level level (gives (span (level - 1) ∷ []))) out.old }
 {
     let LevelAnswer::Level(l) = choose_level(level) else {

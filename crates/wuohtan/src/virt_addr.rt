@@ -11,114 +11,91 @@ use convention::{choose_level, give_bool, give_index, give_offset, give_u64, giv
 use status::{NO_SUCH_CHOICE, give};
 use table::LevelAnswer;
 
-#[unsafe(no_mangle)]
-pub extern "C" fn wuohtan_virt_addr_new(addr: u64, out: &mut [u64]) -> u8
+pub fn wuohtan_virt_addr_new(addr: u64, out: &mut [u64]) -> u8
     ensures { left result out.new ≡ leaves (word (address (virt 48) addr)) out.old }
 {
     give_virt(VirtAddr::new(addr), out)
 }
 
-#[unsafe(no_mangle)]
-pub extern "C" fn wuohtan_virt_addr_try_new(addr: u64, out: &mut [u64]) -> u8
+pub fn wuohtan_virt_addr_try_new(addr: u64, out: &mut [u64]) -> u8
     ensures { left result out.new ≡ leaves (word (address (virt 48) addr)) out.old }
 {
     give_virt(VirtAddr::try_new(addr), out)
 }
 
-#[unsafe(no_mangle)]
-pub extern "C" fn wuohtan_virt_addr_new_truncate(addr: u64, out: &mut [u64]) -> u8
+pub fn wuohtan_virt_addr_new_truncate(addr: u64, out: &mut [u64]) -> u8
     ensures { left result out.new ≡ leaves (gives (sign_extend 48 addr ∷ [])) out.old }
 {
     give(VirtAddr::new_truncate(addr).0, out)
 }
 
-#[unsafe(no_mangle)]
-pub extern "C" fn wuohtan_virt_addr_zero(out: &mut [u64]) -> u8
+pub fn wuohtan_virt_addr_zero(out: &mut [u64]) -> u8
     ensures { left result out.new ≡ leaves (gives (0 ∷ [])) out.old }
 {
     give(VirtAddr::zero().0, out)
 }
 
-#[unsafe(no_mangle)]
-pub extern "C" fn wuohtan_virt_addr_as_u64(addr: u64, out: &mut [u64]) -> u8
+pub fn wuohtan_virt_addr_as_u64(addr: u64, out: &mut [u64]) -> u8
     ensures { left result out.new ≡ leaves (word (address (virt 48) addr)) out.old }
 {
     give_u64(VirtAddr(addr).as_u64(), out)
 }
 
-#[unsafe(no_mangle)]
-pub extern "C" fn wuohtan_virt_addr_is_null(addr: u64, out: &mut [u64]) -> u8
+pub fn wuohtan_virt_addr_is_null(addr: u64, out: &mut [u64]) -> u8
     ensures { left result out.new ≡ leaves (truth (is_null (virt 48) addr)) out.old }
 {
     give_bool(VirtAddr(addr).is_null(), out)
 }
 
-#[unsafe(no_mangle)]
-pub extern "C" fn wuohtan_virt_addr_align_up(addr: u64, align: u64, out: &mut [u64]) -> u8
+pub fn wuohtan_virt_addr_align_up(addr: u64, align: u64, out: &mut [u64]) -> u8
     ensures { left result out.new ≡ leaves (word (align_up_virt 48 addr align)) out.old }
 {
     give_virt(VirtAddr(addr).align_up(align), out)
 }
 
-#[unsafe(no_mangle)]
-pub extern "C" fn wuohtan_virt_addr_align_down(addr: u64, align: u64, out: &mut [u64]) -> u8
+pub fn wuohtan_virt_addr_align_down(addr: u64, align: u64, out: &mut [u64]) -> u8
     ensures { left result out.new ≡ leaves (word (align_down_virt 48 addr align)) out.old }
 {
     give_virt(VirtAddr(addr).align_down(align), out)
 }
 
-#[unsafe(no_mangle)]
-pub extern "C" fn wuohtan_virt_addr_is_aligned(addr: u64, align: u64, out: &mut [u64]) -> u8
+pub fn wuohtan_virt_addr_is_aligned(addr: u64, align: u64, out: &mut [u64]) -> u8
     ensures { left result out.new ≡ leaves (truth (is_aligned (virt 48) addr align)) out.old }
 {
     give_bool(VirtAddr(addr).is_aligned(align), out)
 }
 
-#[unsafe(no_mangle)]
-pub extern "C" fn wuohtan_virt_addr_add(addr: u64, count: u64, out: &mut [u64]) -> u8
+pub fn wuohtan_virt_addr_add(addr: u64, count: u64, out: &mut [u64]) -> u8
     ensures { left result out.new ≡ leaves (word (plus (virt 48) addr count)) out.old }
 {
     give_virt(VirtAddr(addr).add(count), out)
 }
 
-#[unsafe(no_mangle)]
-pub extern "C" fn wuohtan_virt_addr_sub(addr: u64, count: u64, out: &mut [u64]) -> u8
+pub fn wuohtan_virt_addr_sub(addr: u64, count: u64, out: &mut [u64]) -> u8
     ensures { left result out.new ≡ leaves (word (minus (virt 48) addr count)) out.old }
 {
     give_virt(VirtAddr(addr).sub(count), out)
 }
 
-#[unsafe(no_mangle)]
-pub extern "C" fn wuohtan_virt_addr_sub_addr(addr: u64, other: u64, out: &mut [u64]) -> u8
+pub fn wuohtan_virt_addr_sub_addr(addr: u64, other: u64, out: &mut [u64]) -> u8
     ensures { left result out.new ≡ leaves (word (distance (virt 48) addr other)) out.old }
 {
     give_u64(VirtAddr(addr).sub_addr(VirtAddr(other)), out)
 }
 
-#[unsafe(no_mangle)]
-pub extern "C" fn wuohtan_virt_addr_forward_checked_u64(
-    start: u64,
-    count: u64,
-    out: &mut [u64],
-) -> u8
+pub fn wuohtan_virt_addr_forward_checked_u64(start: u64, count: u64, out: &mut [u64]) -> u8
     ensures { left result out.new ≡ leaves (word (forward_from 48 start count)) out.old }
 {
     give_virt(VirtAddr::forward_checked_u64(VirtAddr(start), count), out)
 }
 
-#[unsafe(no_mangle)]
-pub extern "C" fn wuohtan_virt_addr_backward_checked_u64(
-    start: u64,
-    count: u64,
-    out: &mut [u64],
-) -> u8
+pub fn wuohtan_virt_addr_backward_checked_u64(start: u64, count: u64, out: &mut [u64]) -> u8
     ensures { left result out.new ≡ leaves (word (backward_from 48 start count)) out.old }
 {
     give_virt(VirtAddr::backward_checked_u64(VirtAddr(start), count), out)
 }
 
-#[unsafe(no_mangle)]
-pub extern "C" fn wuohtan_virt_addr_steps_between_u64(start: u64, end: u64, out: &mut [u64]) -> u8
+pub fn wuohtan_virt_addr_steps_between_u64(start: u64, end: u64, out: &mut [u64]) -> u8
     ensures { left result out.new ≡ leaves (word (steps_between 48 start end)) out.old }
 {
     give_u64(
@@ -127,43 +104,37 @@ pub extern "C" fn wuohtan_virt_addr_steps_between_u64(start: u64, end: u64, out:
     )
 }
 
-#[unsafe(no_mangle)]
-pub extern "C" fn wuohtan_virt_addr_page_offset(addr: u64, out: &mut [u64]) -> u8
+pub fn wuohtan_virt_addr_page_offset(addr: u64, out: &mut [u64]) -> u8
     ensures { left result out.new ≡ leaves (word (page_offset 48 addr)) out.old }
 {
     give_offset(VirtAddr(addr).page_offset(), out)
 }
 
-#[unsafe(no_mangle)]
-pub extern "C" fn wuohtan_virt_addr_p1_index(addr: u64, out: &mut [u64]) -> u8
+pub fn wuohtan_virt_addr_p1_index(addr: u64, out: &mut [u64]) -> u8
     ensures { left result out.new ≡ leaves (word (table_index 48 addr 1)) out.old }
 {
     give_index(VirtAddr(addr).p1_index(), out)
 }
 
-#[unsafe(no_mangle)]
-pub extern "C" fn wuohtan_virt_addr_p2_index(addr: u64, out: &mut [u64]) -> u8
+pub fn wuohtan_virt_addr_p2_index(addr: u64, out: &mut [u64]) -> u8
     ensures { left result out.new ≡ leaves (word (table_index 48 addr 2)) out.old }
 {
     give_index(VirtAddr(addr).p2_index(), out)
 }
 
-#[unsafe(no_mangle)]
-pub extern "C" fn wuohtan_virt_addr_p3_index(addr: u64, out: &mut [u64]) -> u8
+pub fn wuohtan_virt_addr_p3_index(addr: u64, out: &mut [u64]) -> u8
     ensures { left result out.new ≡ leaves (word (table_index 48 addr 3)) out.old }
 {
     give_index(VirtAddr(addr).p3_index(), out)
 }
 
-#[unsafe(no_mangle)]
-pub extern "C" fn wuohtan_virt_addr_p4_index(addr: u64, out: &mut [u64]) -> u8
+pub fn wuohtan_virt_addr_p4_index(addr: u64, out: &mut [u64]) -> u8
     ensures { left result out.new ≡ leaves (word (table_index 48 addr 4)) out.old }
 {
     give_index(VirtAddr(addr).p4_index(), out)
 }
 
-#[unsafe(no_mangle)]
-pub extern "C" fn wuohtan_virt_addr_page_table_index(addr: u64, level: u64, out: &mut [u64]) -> u8
+pub fn wuohtan_virt_addr_page_table_index(addr: u64, level: u64, out: &mut [u64]) -> u8
     ensures { left result out.new ≡ leaves (at_level level (word (table_index 48 addr level))) out.old }
 {
     let LevelAnswer::Level(l) = choose_level(level) else {

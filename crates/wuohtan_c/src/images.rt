@@ -1,0 +1,48 @@
+// Exports: translation, the run search, and lists of searches.
+ghost use Rattle.std.specs.Prelude.{◌≡◌};
+ghost use Rattle.paging.specs.List.{listing};
+ghost use Rattle.paging.specs.Search.{searching};
+ghost use Rattle.paging.specs.Translate.{translation};
+ghost use Rattle.status.specs.Convention.{left, leaves};
+ghost use Rattle.convention.specs.Images.{translation_words, search_words, left_list, leaves_list, LeftBytes};
+
+#[unsafe(no_mangle)]
+pub extern "C" fn wuohtan_translate(
+    image: &[u64],
+    base: u64,
+    root: u64,
+    addr: u64,
+    out: &mut [u64],
+) -> u8
+    ensures { left result out.new ≡ leaves (translation_words (translation 48 4 image.now base root addr)) out.old }
+{
+    wuohtan::images::wuohtan_translate(image, base, root, addr, out)
+}
+
+#[unsafe(no_mangle)]
+pub extern "C" fn wuohtan_search(
+    image: &[u64],
+    base: u64,
+    root: u64,
+    page: u64,
+    out: &mut [u64],
+) -> u8
+    ensures { left result out.new ≡ leaves (search_words (searching 48 4 image.now base root page)) out.old }
+{
+    wuohtan::images::wuohtan_search(image, base, root, page, out)
+}
+
+#[unsafe(no_mangle)]
+pub extern "C" fn wuohtan_list(
+    image: &[u64],
+    base: u64,
+    root: u64,
+    page: u64,
+    empty_tables: &mut [u8],
+    answers: &mut [u64],
+    out: &mut [u64],
+) -> u8
+    ensures { (left_list answers.new result out.new ≡ leaves_list (listing 48 4 image.now base root page answers.old) answers.old out.old) × LeftBytes 48 image.now base root page out.old empty_tables.old empty_tables.new }
+{
+    wuohtan::images::wuohtan_list(image, base, root, page, empty_tables, answers, out)
+}
