@@ -10,6 +10,5 @@ returns-then-refused-ne0 c = refuses-first c.table_refusal-refused.result _ _ c.
 
 pub returns : goal.returns
 returns c =
-    let s = c in
-    let base-passes : item_refusal (phys 52) s.args.base 0x1000 ≡ 0 = sym c.table_refusal-refused.ensures ∙ c.if-refused-ne0.false in
+    let base-passes : item_refusal (phys 52) c.args.base 0x1000 ≡ 0 = sym c.table_refusal-refused.ensures ∙ c.if-refused-ne0.false in
     rw base-passes c.root_place.ensures
