@@ -12,21 +12,20 @@ use Rattle.paging.specs.Memory.{segments_in, table_from, table_in}
 use Rattle.paging.specs.Search.{pages_from}
 use Rattle.paging.proofs.Remembering.{forgotten-true}
 use Rattle.image.proofs.ListKept.{kept}
-use Rattle.image.proofs.run_search.search_from.Statement.{statement}
-use Rattle.image.proofs.run_search.search_from.Tie as tie
+use Rattle.image.proofs.run_search.search_from.Goals as goal
 
-slice-aggregate-find : tie.Need-slice-aggregate-find
-slice-aggregate-find c = refl
+pub slice_bounds-find-end : goal.slice_bounds-find-end
+slice_bounds-find-end c = refl
 
-find-requires : tie.Need-find-requires
-find-requires c κs =
-    let s = c.before.before.before in
+pub find-found-requires : goal.find-found-requires
+find-found-requires c =
+    let s = c in
     let a = s.args in
     (s.requires.0, forgotten-true (entry_by a.reserved) (table_in (segments_in a.segments.now) a.words.now) a.words.now 0, s.requires.1)
 
-answer-of-requires : tie.Need-answer-of-requires
-answer-of-requires c κs =
-    let s = c.before.before.before.before.before in
+pub answer_of-requires : goal.answer_of-requires
+answer_of-requires c =
+    let s = c in
     let a = s.args in
     let n = levels_of a.width in
     let b : span_pages n ≤ 2 ^ 45 = pow_mono {i = 9 * n} {j = 45} (omega (arith, (few-levels a.width).1)) in (
@@ -34,12 +33,9 @@ answer-of-requires c κs =
       (
         runs.search (pages_from a.reserved (segments_in a.segments.now) a.words.now n a.root) a.page,
         kept a.reserved (table_in (segments_in a.segments.now) a.words.now) n (table_from a.words.now a.root) (few-levels a.width).1 a.page (omega (arith, s.requires.0)),
-        c.before.find.ensures.0,
+        c.find-found.ensures.0,
       ),
     )
 
-returns : tie.Need-returns
-returns c = c.answer-of.ensures _ c.before.before.find.ensures.0
-
-pub search-from-spec : {M : Type 1} → statement M
-search-from-spec = tie.close (tie.spec slice-aggregate-find find-requires answer-of-requires returns)
+pub returns : goal.returns
+returns c = c.answer_of.ensures _ c.find-found.ensures.0

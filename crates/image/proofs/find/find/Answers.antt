@@ -1,9 +1,8 @@
 -- `find` tells the first run or stop from a page on.
 use Prim.Native.Nat.{ℕ, ◌+◌, ◌-◌, ◌*◌, ◌/◌, ◌^◌, ◌≤◌}
-use mathlib.Core.Path.{◌≡◌, refl, sym, ap, ◌∙◌, subst}
+use mathlib.Core.Path.{◌≡◌, refl, sym, ap, ◌∙◌}
 use mathlib.Core.List.{List}
 use native.Mathlib.Omega.{arith}
-use borrow.Author.Rules.{rules}
 use lib.ListN.{get_or}
 use lib.Pow.{pow_mono, pow-add, shl-shr}
 use Rattle.mapping.specs.Pages.{PageState, Space, reserved, outside}
@@ -18,14 +17,15 @@ use Rattle.image.specs.Found.{found_of, answer_in}
 use Rattle.paging.specs.Memory.{segments_in}
 use Rattle.paging.specs.Search.{pages_from}
 use Rattle.paging.specs.Progress.{progress_words, Holds}
-use Rattle.image.proofs.find.find.Statement.{statement}
-use Rattle.image.proofs.find.find.Tie as tie
+use Rattle.image.proofs.find.find.Goals as goal
 
+-- HELPER
 half : (levels : ℕ) → 1 ≤ levels → span_pages levels / 2 ≡ 2 ^ (9 * levels - 1)
 half levels h =
     let e : 9 * levels ≡ 9 * levels - 1 + 1 = omega arith in
     ap (λ (k : ℕ). 2 ^ k / 2) e ∙ ap (λ (k : ℕ). k / 2) (pow-add 2 (9 * levels - 1) 1) ∙ shl-shr (2 ^ (9 * levels - 1)) 1
 
+-- HELPER
 -- the answer of the words of what was found, as the code has it
 found-answer : (w : List ℕ) (x pages : ℕ) (t : Progress) → w ≡ progress_words t
     → found_from (get_or w 0 0) (get_or w 1 0) (get_or w 2 0) (get_or w 3 0) x pages ≡ found_of (answer_in pages t x)
@@ -35,37 +35,21 @@ found-answer w x pages (running q g h) e = rw e
 found-answer w x pages (stopped q l reserved) e = rw e
 found-answer w x pages (stopped q l outside) e = rw e
 
+-- HELPER
 same_answer : (levels : ℕ) (f : ℕ → PageState) → 1 ≤ levels → (t : Progress) (x : ℕ) → answer_in (span_pages levels) t x ≡ answer_of (space_of levels f) (at-page t x)
 unfolding answer_of half_end
 same_answer levels f h unfound x = refl
 same_answer levels f h (stopped q l r) x = refl
 same_answer levels f h (running q g d) x = rw (half levels h)
 
-slice-aggregate-pass-root : tie.Need-slice-aggregate-pass-root
-slice-aggregate-pass-root c = search rules
+pub pass_root-reached-requires : goal.pass_root-reached-requires
+pass_root-reached-requires c = let s = c in ((unfound, refl, tt), s.requires.1, s.requires.0, s.requires.2)
 
-pass-root-requires : tie.Need-pass-root-requires
-pass-root-requires c κs = let s = c.before.before.before.before.before in ((unfound, refl, tt), s.requires.1, s.requires.0, s.requires.2)
-
-array-read-found-of : tie.Need-array-read-found-of
-array-read-found-of c = search rules
-
-array-read-found-of-2 : tie.Need-array-read-found-of-2
-array-read-found-of-2 c = search rules
-
-array-read-found-of-3 : tie.Need-array-read-found-of-3
-array-read-found-of-3 c = search rules
-
-array-read-found-of-4 : tie.Need-array-read-found-of-4
-array-read-found-of-4 c = search rules
-
-page-count-requires : tie.Need-page-count-requires
-page-count-requires c κs = search rules
-
+-- LEFT
 -- what the tables were gone through for
 module _ (c : tie.After-pass-root) where
   abbrev given : tie.Start
-  given = c.before.before.before.before.before.before
+  given = c
 
   abbrev levels : ℕ
   levels = levels_of given.args.width
@@ -74,47 +58,30 @@ module _ (c : tie.After-pass-root) where
   pages = pages_from given.args.reserved (segments_in given.args.segments.now) given.args.words.now levels given.args.root
 
   abbrev found : List ℕ
-  found = c.pass-root.new.1.1.1.0
+  found = c.pass_root-reached.new.1.1.1.0
 
-  came : (t : Progress) × (found ≡ progress_words t) × (pass pages.page given.args.page pages.size unfound ≡ at-page t c.pass-root.result) × Holds t c.pass-root.result
-  came = c.pass-root.ensures.1.0 unfound refl
+  came : (t : Progress) × (found ≡ progress_words t) × (pass pages.page given.args.page pages.size unfound ≡ at-page t c.pass_root-reached.result) × Holds t c.pass_root-reached.result
+  came = c.pass_root-reached.ensures.1.0 unfound refl
 
+-- HELPER
 -- and its pages
 abbrev passed : tie.After-page-count → tie.After-pass-root
-passed c = c.before.before.before.before
+passed c = c
 
-found-of-requires : tie.Need-found-of-requires
-found-of-requires c κs = search rules
+pub shape_of-empty : goal.shape_of-empty
+shape_of-empty c = (passed c).pass_root-reached.ensures.0
 
-same_length : tie.Need-same-length
-same_length c = (passed c.before).pass-root.ensures.0
-
-returns : tie.Need-returns
+pub returns : goal.returns
 returns c =
-    let n = c.before in
+    let n = c in
     let k = passed n in
     let a = (given k).args in
     let (t, e, h, o) = came k in (
       c.found_of.ensures
-          ∙ found-answer (found k) k.pass-root.result n.page-count.result t e
-          ∙ ap found_of (ap (λ (m : ℕ). answer_in m t k.pass-root.result) n.page-count.ensures
-          ∙ same_answer (levels k) (pages k).page (omega (arith, (few-levels a.width).0)) t k.pass-root.result
+          ∙ found-answer (found k) k.pass_root-reached.result n.page_count.result t e
+          ∙ ap found_of (ap (λ (m : ℕ). answer_in m t k.pass_root-reached.result) n.page_count.ensures
+          ∙ same_answer (levels k) (pages k).page (omega (arith, (few-levels a.width).0)) t k.pass_root-reached.result
           ∙ ap (answer_of (pages k)) (sym h)
           ∙ passed-search (pages k) a.page (pow_mono (omega arith))),
-      (k.pass-root.ensures.0, k.pass-root.ensures.1.1),
+      (k.pass_root-reached.ensures.0, k.pass_root-reached.ensures.1.1),
     )
-
-pub find_spec : {M : Type 1} → statement M
-find_spec =
-    tie.close
-    (tie.spec
-    slice-aggregate-pass-root
-    pass-root-requires
-    array-read-found-of
-    array-read-found-of-2
-    array-read-found-of-3
-    array-read-found-of-4
-    page-count-requires
-    found-of-requires
-    same_length
-    returns)

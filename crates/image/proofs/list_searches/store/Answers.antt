@@ -1,0 +1,40 @@
+-- `store` stores an answer's five words.
+use Prim.Native.Nat.{ℕ, ◌+◌, ◌*◌}
+use mathlib.Core.Path.{ap, ◌∙◌}
+use mathlib.Core.List.{List, ◌++◌}
+use mathlib.Core.Logic.{⊎_elim}
+use native.Mathlib.Omega.{arith}
+use lib.ListN.{length-set, take, drop}
+use lib.Pow.{pow_pos}
+use Rattle.mapping.specs.Walk.{span_pages}
+use Rattle.laws.specs.Item.{Item}
+use Rattle.addr.specs.Widths.{levels_of}
+use Rattle.image.proofs.Founds.{run-bounds, page-bound}
+use Rattle.paging.proofs.ListWords.{five-stores}
+use Rattle.image.proofs.ListWords.{five-words}
+use Rattle.image.proofs.list_searches.store.Goals as goal
+
+pub numbered_page-page-requires : goal.numbered_page-page-requires
+numbered_page-page-requires c = omega (arith, c.requires.1.0, page-bound c.args.found (span_pages (levels_of c.args.width)) c.requires.1 (pow_pos (9 * levels_of c.args.width)))
+
+pub overflow_mul-place : goal.overflow_mul-place
+overflow_mul-place c = omega (arith, run-bounds c.args.found (span_pages (levels_of c.args.width)) c.requires.1 c.if-kind-eq-RUN.true)
+
+pub bounds-out-at-2 : goal.bounds-out-at-2
+bounds-out-at-2 c = simp length-set (omega arith)
+
+pub bounds-out-at-3 : goal.bounds-out-at-3
+bounds-out-at-3 c = simp length-set (omega arith)
+
+pub bounds-out-at-4 : goal.bounds-out-at-4
+bounds-out-at-4 c = simp length-set (omega arith)
+
+pub bounds-out-at-5 : goal.bounds-out-at-5
+bounds-out-at-5 c = simp length-set (omega arith)
+
+pub returns : goal.returns
+returns c a e =
+    five-stores c.args.out.now c.args.at c.args.found.kind c.numbered_page-page.result.start_address.0 c.if-kind-eq-RUN.place c.args.found.count c.args.found.rights (omega arith)
+    ∙ ap (λ (l : List ℕ). take c.args.at c.args.out.now ++ (l ++ drop (c.args.at + 5) c.args.out.now))
+    (five-words _ c.args.found a c.numbered_page-page.result.start_address.0 c.if-kind-eq-RUN.place e (ap (λ (i : Item). i.start) c.numbered_page-page.ensures)
+    (λ k. ⊎_elim (λ w. omega arith) (λ w. omega arith) c.if-kind-eq-RUN.branch) (λ k. ⊎_elim (λ w. omega arith) (λ w. omega arith) c.if-kind-eq-RUN.branch))

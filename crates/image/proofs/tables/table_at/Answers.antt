@@ -1,0 +1,6 @@
+-- `table_at` meets its contract.
+use native.Mathlib.Nat.{add-sub_cancel_left}
+use Rattle.image.proofs.tables.table_at.Goals as goal
+
+pub returns : goal.returns
+returns c = rw add-sub_cancel_left
