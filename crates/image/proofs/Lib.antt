@@ -6,3 +6,4 @@ pub mod Taking
 pub mod PagesTurn
 pub mod EntrySteps
 pub mod LowestTurn
+pub mod TableTurn
