@@ -9,14 +9,13 @@ use native.Mathlib.Nat.{mod-lt}
 use lib.Bits.{bit_and, bit_xor}
 use lib.ListN.{get_or}
 use lib.Pow.{pow_pos}
-use Rattle.mapping.specs.Pages.{Rights, mapped}
-use Rattle.mapping.specs.Walk.{HoldsNothing, joined, span_pages, word_for}
-use Rattle.paging.specs.EmptyTables.{TrueIn, marked}
+use Rattle.mapping.specs.Walk.{HoldsNothing, joined, span_pages}
+use Rattle.paging.specs.EmptyTables.{marked}
 use Rattle.paging.specs.Entry.{rights_of, entry_by}
 use Rattle.paging.specs.Memory.{Segment, place_from, reaching, table_from, table_in, total}
 use Rattle.paging.specs.Packed.{rights_bits, rights_over}
 use Rattle.paging.specs.Pages.{pages_by}
-use Rattle.paging.specs.Progress.{GoesOn, Passes, Takes, Halts}
+use Rattle.paging.specs.Progress.{GoesOn, Takes, Halts}
 use Rattle.paging.specs.Span.{after}
 use Rattle.paging.proofs.Passing.{passes-absent, ends-absent, stops-reserved, stops-outside, passes-mapped, ends-mapped}
 use Rattle.paging.proofs.Places.{place_inside, place-reached}
@@ -27,7 +26,6 @@ use Rattle.walk.specs.Place.{place_of}
 use Rattle.walk.specs.declared.look.Look.{Look}
 use Rattle.walk.specs.declared.look.Look.TheVariants as look
 use Rattle.walk.specs.declared.memory.Place.{Place}
-use Rattle.walk.specs.declared.memory.Place.TheVariants as place
 use Rattle.walk.proofs.Looks.{Sound, sound-entry}
 use Rattle.walk.proofs.Upper.{under-absent, under-reserved, under-leaf, under-outside, under_table}
 use Rattle.image.specs.Tables.{Steps}

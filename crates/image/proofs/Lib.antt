@@ -7,3 +7,5 @@ pub mod PagesTurn
 pub mod EntrySteps
 pub mod LowestTurn
 pub mod TableTurn
+pub mod RootTurn
+pub mod Rooted

@@ -3,7 +3,6 @@ use Prim.Native.Nat.{ℕ}
 use mathlib.Core.Path.{◌≡◌, ap, ◌∙◌}
 use mathlib.Core.List.{[], ◌∷◌}
 use native.Mathlib.Omega.{arith}
-use Rattle.laws.specs.Number.{start}
 use Rattle.laws.proofs.Width.{sign_zero}
 use Rattle.mapping.specs.Pages.{reserved, outside}
 use Rattle.mapping.specs.Search.{Answer, end, stop, run}

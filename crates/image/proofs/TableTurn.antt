@@ -206,8 +206,7 @@ module _ (mask : ℕ) (segments words : List ℕ) (place level pages all from en
               let g = sym (whole_part segments) in
               let two : 2 ≤ n = omega (arith, asked.2, above-one) in
               let m : n - 1 + 1 ≡ n = omega arith in
-              let span : pages / 2 ^ 9 ≡ span_pages (n - 1) = ap (λ (x : ℕ). x / 2 ^ 9) (asked.4 ∙ ap span_pages (sym m)) ∙ narrow (n - 1) in
-              (
+              let span : pages / 2 ^ 9 ≡ span_pages (n - 1) = ap (λ (x : ℕ). x / 2 ^ 9) (asked.4 ∙ ap span_pages (sym m)) ∙ narrow (n - 1) in (
                 going,
                 subst (λ (l : List ℕ). TrueOf (entry_by mask) (table_in (segments_in l) (take (length words - 0) words)) (take (length words - 0) words) bytes) g
                     (subst (λ (l : List ℕ). TrueOf (entry_by mask) (table_in (segments_in segments) l) l bytes) w v.1),

@@ -1,5 +1,4 @@
 -- `next_page` tells the page that an answer leaves.
-use Prim.Native.Nat.{◌≤◌, ◌<◌}
 use mathlib.Core.Path.{◌∙◌}
 use native.Mathlib.Omega.{arith}
 use Rattle.image.proofs.Founds.{after-end, after_run, after_stop, run-bounds, stop-bounds}

@@ -1,148 +1,104 @@
 -- `list_from` writes the answers of the searches that have room.
-use Prim.Native.Nat.{ℕ, ◌-◌, ◌*◌, ◌^◌, ◌≤◌, ◌<◌}
+use Prim.Native.Nat.{ℕ, ◌≤◌, ◌<◌}
 use mathlib.Core.Path.{◌≡◌, refl, sym, ap, ◌∙◌, subst}
+use mathlib.Core.List.{List}
 use mathlib.Core.Option.{some}
 use native.Mathlib.Omega.{arith}
-use lib.Pow.{pow_mono}
 use Rattle.answer.specs.Outcome.{gives}
-use Rattle.mapping.specs.Pages.{Space, Spanned}
-use Rattle.mapping.specs.Search.{Answer}
+use Rattle.mapping.specs.Pages.{Spanned}
 use Rattle.mapping.specs.Search as runs
+use Rattle.mapping.specs.Walk.{span_pages}
 use Rattle.mapping.proofs.Walk.{spanned}
 use Rattle.laws.specs.Item.{Item}
 use Rattle.addr.specs.Widths.{width_of, levels_of}
+use Rattle.addr.specs.declared.width.Width.{Width}
 use Rattle.addr.proofs.Widths.{few-levels}
+use Rattle.found.specs.declared.found.Found.{Found}
 use Rattle.paging.specs.Entry.{entry_by}
-use Rattle.paging.specs.Memory.{segments_in, table_from, table_in}
+use Rattle.paging.specs.Memory.{Segment, segments_in, table_from, table_in}
 use Rattle.paging.specs.Search.{pages_from}
 use Rattle.image.specs.Found.{found_of, OfAnswer}
+use Rattle.image.proofs.AllPages.{pages-top}
 use Rattle.image.proofs.ListKept.{kept}
 use Rattle.paging.proofs.ListTurns.{first-turn, later, next-turn, over, full}
 use Rattle.paging.proofs.ListTurns as turns
 use Rattle.image.proofs.list_searches.list_from.Goals as goal
 
+-- the answer of a search is one of those over so many pages
+answers : (mask : ℕ) (segments : List Segment) (words : List ℕ) (width : Width) (root x : ℕ) (f : Found) → x ≤ span_pages (levels_of width)
+    → f ≡ found_of (runs.search (pages_from mask segments words (levels_of width) root) x) → OfAnswer (span_pages (levels_of width)) f
+answers mask segments words width root x f h e = (
+  pages-top width,
+  (
+    runs.search (pages_from mask segments words (levels_of width) root) x,
+    kept mask (table_in segments words) (levels_of width) (table_from words root) (few-levels width).1 x h,
+    e,
+  ),
+)
+
+whole : (mask : ℕ) (segments : List Segment) (words : List ℕ) (levels root : ℕ) → Spanned (pages_from mask segments words levels root)
+whole mask segments words levels root = spanned (entry_by mask) (table_in segments words) levels (table_from words root)
+
 pub loop-at-init : goal.loop-at-init
 loop-at-init c =
-    let s = c in
-    let a = s.args in
-    (first-turn (width_of a.width) (pages_from a.reserved (segments_in a.segments.now) a.words.now (levels_of a.width) a.root) a.page a.out-1.now (omega (arith, s.requires.0)), (refl, s.requires.1))
-
--- LEFT
--- a turn of the loop
-module _ (c : tie.At-loop invariant-loop decreases-loop) where
-  abbrev counted : tie.After-page-count invariant-loop decreases-loop
-  counted = c
-
-  abbrev start : tie.Start invariant-loop decreases-loop
-  start = counted
-
-  abbrev pages : Space
-  pages = pages_from start.args.reserved (segments_in start.args.segments.now) start.args.words.now (levels_of start.args.width) start.args.root
-
-  -- the answer of its search
-  abbrev answer : Answer
-  answer = runs.search pages c.loop-at.at
-
-  whole : Spanned pages
-  whole = spanned (entry_by start.args.reserved) (table_in (segments_in start.args.segments.now) start.args.words.now) (levels_of start.args.width) (table_from start.args.words.now start.args.root)
-
-  -- the code's count of its pages is theirs
-  count : counted.page_count-pages.result ≡ pages.size
-  count = counted.page_count-pages.ensures
-
-  bound : pages.size ≤ 2 ^ 45
-  bound = pow_mono {i = 9 * levels_of start.args.width} {j = 45} (omega (arith, (few-levels start.args.width).1))
+    let a = c.args in
+    (first-turn (width_of a.width) (pages_from a.reserved (segments_in a.segments.now) a.words.now (levels_of a.width) a.root) a.page a.out.now (omega (arith, c.requires.0)), (refl, c.requires.1))
 
 pub overflow_sub-out : goal.overflow_sub-out
-overflow_sub-out c = omega (arith, turns.same_length c.loop-at.invariant.0)
+overflow_sub-out c = omega (arith, turns.same_length c.loop-at.invariant.0, c.loop-at.invariant.0.has_room)
 
 pub numbered_page-requires : goal.numbered_page-requires
-numbered_page-requires c = let b = c in omega (arith, c.loop-at-test.true, count b, bound b)
-
-pub shape_of-empty-then-out-used-lt-ANSWER_WORDS : goal.shape_of-empty-then-out-used-lt-ANSWER_WORDS
-shape_of-empty-then-out-used-lt-ANSWER_WORDS c = c.loop-at.invariant.1.0
-
-pub shape_of-out-then-out-used-lt-ANSWER_WORDS : goal.shape_of-out-then-out-used-lt-ANSWER_WORDS
-shape_of-out-then-out-used-lt-ANSWER_WORDS c = turns.same_length c.loop-at.invariant.0
+numbered_page-requires c = omega (arith, c.loop-at-test.true, c.page_count-pages.ensures, pages-top c.args.width)
 
 pub returns-then-out-used-lt-ANSWER_WORDS : goal.returns-then-out-used-lt-ANSWER_WORDS
-returns-then-out-used-lt-ANSWER_WORDS c =
-    let b = c in (
-      ap (λ (k : Item). record { answer = gives (record { written = c.loop-at.written; next = some k }); words = c.loop-at.out-1 }) c.numbered_page.ensures
-          ∙ full c.loop-at.invariant.0 (omega (arith, c.loop-at-test.true, count b)) c.if-out-used-lt-ANSWER_WORDS.true,
-      c.loop-at.invariant.1,
-    )
+returns-then-out-used-lt-ANSWER_WORDS c = (
+  ap (λ (k : Item). record { answer = gives (record { written = c.loop-at.written; next = some k }); words = c.loop-at.out }) c.numbered_page.ensures
+      ∙ full c.loop-at.invariant.0 (omega (arith, c.loop-at-test.true, c.page_count-pages.ensures)) c.if-out-used-lt-ANSWER_WORDS.true,
+  c.loop-at.invariant.1,
+)
 
 pub find-found-requires : goal.find-found-requires
-find-found-requires c =
-    (omega (arith, c.loop-at-test.true, count b), c.loop-at.invariant.1.1, (start b).requires.2)
-
--- LEFT
--- what its search has found
-module _ (c : tie.After-find invariant-loop decreases-loop) where
-  abbrev turn : tie.At-loop invariant-loop decreases-loop
-  turn = c
-
-  found : c.find-found.result ≡ found_of (answer turn)
-  found = c.find-found.ensures.0
-
-  answers : OfAnswer (pages turn).size c.find-found.result
-  answers =
-      let a = (start turn).args in (
-        bound turn,
-        (
-          answer turn,
-          kept a.reserved (table_in (segments_in a.segments.now) a.words.now) (levels_of a.width) (table_from a.words.now a.root) (few-levels a.width).1 turn.loop-at.at turn.loop-at.inv.0.inside,
-          found,
-        ),
-      )
-
-  going : turn.loop-at.at < (pages turn).size
-  going = omega (arith, c.loop-at-test.true, count turn)
+find-found-requires c = (omega (arith, c.loop-at-test.true, c.page_count-pages.ensures), c.loop-at.invariant.1.1, c.requires.2)
 
 pub store-requires : goal.store-requires
 store-requires c =
-    let f = c in
-    (omega (arith, f.if-out-used-lt-ANSWER_WORDS.false, turns.same_length (turn f).loop-at.invariant.0), answers f)
+    let a = c.args in (
+      omega (arith, c.if-out-used-lt-ANSWER_WORDS.false, turns.same_length c.loop-at.invariant.0, c.loop-at.invariant.0.has_room),
+      answers a.reserved (segments_in a.segments.now) a.words.now a.width a.root c.loop-at.at c.find-found.result c.loop-at.invariant.0.inside c.find-found.ensures.0,
+    )
 
 pub next_page-at-requires : goal.next_page-at-requires
 next_page-at-requires c =
-    let f = c in
-    subst (λ (n : ℕ). OfAnswer n f.find-found.result) (sym (count (turn f))) (answers f)
+    let a = c.args in
+    subst (λ (n : ℕ). OfAnswer n c.find-found.result) (sym c.page_count-pages.ensures)
+    (answers a.reserved (segments_in a.segments.now) a.words.now a.width a.root c.loop-at.at c.find-found.result c.loop-at.invariant.0.inside c.find-found.ensures.0)
 
--- LEFT
--- the page that it leaves
-module _ (c : tie.After-next-page invariant-loop decreases-loop) where
-  abbrev did-find : tie.After-find invariant-loop decreases-loop
-  did-find = c
-
-  leaves : c.next_page-at.result ≡ runs.next (pages (turn did-find)) (answer (turn did-find))
-  leaves =
-      let b = turn did-find in
-      c.next_page-at.ensures (levels_of (start b).args.width) (pages b).page (count b) (answer b) (found did-find)
+pub overflow_add-written : goal.overflow_add-written
+overflow_add-written c = omega (arith, c.loop-at.invariant.0.five-each)
 
 pub loop-at-smaller : goal.loop-at-smaller
 loop-at-smaller c =
-    let f = did-find c in
-    let b = turn f in
-    omega (arith, going f, leaves c, later c.loop-at.inv.0 (whole b) (going f))
+    let a = c.args in
+    let pages = pages_from a.reserved (segments_in a.segments.now) a.words.now (levels_of a.width) a.root in
+    let going : c.loop-at.at < pages.size = omega (arith, c.loop-at-test.true, c.page_count-pages.ensures) in
+    omega (
+      arith,
+      going,
+      c.next_page-at.ensures (levels_of a.width) pages.page c.page_count-pages.ensures (runs.search pages c.loop-at.at) c.find-found.ensures.0,
+      later c.loop-at.invariant.0 (whole a.reserved (segments_in a.segments.now) a.words.now (levels_of a.width) a.root) going,
+    )
 
 pub loop-at-preserved : goal.loop-at-preserved
 loop-at-preserved c =
-    let store = c.store in
-    let f = did-find c in
-    let b = turn f in
-    let u = c.loop-at.inv.0 in (
-      rw (leaves c)
-          (next-turn u (whole b) (going f) store.new.0 (omega (arith, f.if-out-used-lt-ANSWER_WORDS.left, turns.same_length u)) (store.ensures (answer b) (found f))),
-      (f.find-found.ensures.1.0 ∙ c.loop-at.inv.1.0, f.find-found.ensures.1.1),
+    let a = c.args in
+    let pages = pages_from a.reserved (segments_in a.segments.now) a.words.now (levels_of a.width) a.root in
+    let going : c.loop-at.at < pages.size = omega (arith, c.loop-at-test.true, c.page_count-pages.ensures) in
+    let u = c.loop-at.invariant.0 in (
+      rw (c.next_page-at.ensures (levels_of a.width) pages.page c.page_count-pages.ensures (runs.search pages c.loop-at.at) c.find-found.ensures.0)
+          (next-turn u (whole a.reserved (segments_in a.segments.now) a.words.now (levels_of a.width) a.root) going c.store.new.out
+          (omega (arith, c.if-out-used-lt-ANSWER_WORDS.false, turns.same_length u, u.has_room)) (c.store.ensures (runs.search pages c.loop-at.at) c.find-found.ensures.0)),
+      (c.find-found.ensures.1.0 ∙ c.loop-at.invariant.1.0, c.find-found.ensures.1.1),
     )
 
-pub shape_of-empty : goal.shape_of-empty
-shape_of-empty c = c.loop-at.invariant.1.0
-
-pub shape_of-out : goal.shape_of-out
-shape_of-out c = turns.same_length c.loop-at.invariant.0
-
 pub returns : goal.returns
-returns c = (over c.loop-at.invariant.0 (omega (arith, c.loop-at-test.false, count c)), c.loop-at.invariant.1)
+returns c = (over c.loop-at.invariant.0 (omega (arith, c.loop-at-test.false, c.page_count-pages.ensures)), c.loop-at.invariant.1)

@@ -1,29 +1,17 @@
--- LEFT
-use Prim.Native.Nat.{ℕ, ◌-◌, ◌*◌, ◌^◌, ◌≤◌, ◌<◌}
-use mathlib.Core.Path.{◌≡◌, refl, sym, ap, ◌∙◌, subst}
-use mathlib.Core.Option.{some}
-use native.Mathlib.Omega.{arith}
-use lib.Pow.{pow_mono}
-use Rattle.answer.specs.Outcome.{gives}
-use Rattle.mapping.specs.Pages.{Space, Spanned}
-use Rattle.mapping.specs.Search.{Answer}
-use Rattle.mapping.specs.Search as runs
-use Rattle.mapping.proofs.Walk.{spanned}
-use Rattle.laws.specs.Item.{Item}
+-- The loop of `list_from`: so many answers are written, and the bytes are true.
+use Prim.Native.Nat.{◌-◌}
 use Rattle.addr.specs.Widths.{width_of, levels_of}
-use Rattle.addr.proofs.Widths.{few-levels}
-use Rattle.paging.specs.Entry.{entry_by}
-use Rattle.paging.specs.Memory.{segments_in, table_from, table_in}
+use Rattle.mapping.specs.Walk.{span_pages}
+use Rattle.paging.specs.EmptyTables.{StaysTrue}
+use Rattle.paging.specs.Memory.{segments_in}
 use Rattle.paging.specs.Search.{pages_from}
-use Rattle.image.specs.Found.{found_of, OfAnswer}
-use Rattle.image.proofs.ListKept.{kept}
-use Rattle.paging.proofs.ListTurns.{first-turn, later, next-turn, over, full}
-use Rattle.paging.proofs.ListTurns as turns
+use Rattle.paging.proofs.ListTurns.{Turn}
 use Rattle.image.proofs.list_searches.list_from.Given as goal
 
-abbrev invariant-loop : tie.invariant-loop
-invariant-loop words segments root width reserved page empty₀ out₀ pages at₀ written₀ used₀ empty out at written used =
-    Turn (width_of width) (pages_from reserved (segments_in segments) words (levels_of width) root) page out₀ out at written used × StaysTrue reserved (segments_in segments) words empty₀ empty
+abbrev pub invariant-loop-at : goal.invariant-loop-at
+invariant-loop-at l =
+    Turn (width_of l.width) (pages_from l.reserved (segments_in l.segments) l.words (levels_of l.width) l.root) l.page l.fn.out l.out l.at l.written l.used
+    × StaysTrue l.reserved (segments_in l.segments) l.words l.fn.empty l.empty
 
-abbrev decreases-loop : tie.decreases-loop
-decreases-loop words segments root width reserved page empty₀ out₀ pages at₀ written₀ used₀ empty out at written used = span_pages (levels_of width) - at
+abbrev pub decreases-loop-at : goal.decreases-loop-at
+decreases-loop-at l = span_pages (levels_of l.width) - l.at

@@ -45,8 +45,7 @@ pub returns : goal.returns
 returns c =
     let a = c.args in
     let k = c.loop-below in
-    let z : k.below + 1 ≡ 1 = omega (arith, c.loop-below-test.false) in
-    (
+    let z : k.below + 1 ≡ 1 = omega (arith, c.loop-below-test.false) in (
       k.invariant.1,
       λ y i j. k.invariant.2 y i j ∙ ap (λ (n : ℕ). pages_by a.reserved (table_in (segments_in a.segments.now) a.words.now) n (table_from a.words.now k.place) (rights_over k.rights) y) z,
     )

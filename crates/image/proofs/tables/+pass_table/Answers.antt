@@ -1,7 +1,6 @@
 -- `pass_table` goes over the pages of a table, entry by entry.
-use mathlib.Core.Path.{sym}
 use native.Mathlib.Omega.{arith}
-use Rattle.image.proofs.TableTurn.{table-pages, span-small, end-top, at-first, ahead, within-end, finished, halted, passed, down-returns, down-passed, of-lowest, of-higher, lowest-asked, higher-asked, four}
+use Rattle.image.proofs.TableTurn.{table-pages, end-top, at-first, ahead, within-end, finished, halted, passed, down-returns, down-passed, of-lowest, of-higher, lowest-asked, higher-asked}
 use Rattle.image.proofs.tables.+pass_table.Goals as goal
 
 pub span_end-end-requires : goal.span_end-end-requires
@@ -35,9 +34,12 @@ returns-then-came-next t c = down-returns c.args.reserved c.args.segments.now c.
     c.step_at-step.new.progress c.step_at-step.result c.step_at-step.ensures c.in-Down.lower c.in-Down.above c.in-Down.is c.if-below-eq1.true c.pass_lowest-came.new.progress c.pass_lowest-came.new.empty c.pass_lowest-came.result c.pass_lowest-came.ensures.1) c.if-came-next.true
 
 pub pass_table-reached-requires : goal.pass_table-reached-requires
-pass_table-reached-requires t c = (omega (arith, c.decreases, c.requires.2), higher-asked c.args.reserved c.args.segments.now c.args.words.now c.args.place c.args.level c.args.pages c.args.rights c.args.from c.span_end-end.result c.args.progress.now c.args.empty.now c.requires c.span_end-end.ensures
-    c.loop-at.at c.loop-at.progress c.loop-at.empty c.loop-at.invariant c.loop-at-test.true c.span_end-next.result c.span_end-next.ensures
-    c.step_at-step.new.progress c.step_at-step.result c.step_at-step.ensures c.in-Down.lower c.in-Down.above c.in-Down.is c.if-below-eq1.false)
+pass_table-reached-requires t c = (
+  omega (arith, c.decreases, c.requires.2),
+  higher-asked c.args.reserved c.args.segments.now c.args.words.now c.args.place c.args.level c.args.pages c.args.rights c.args.from c.span_end-end.result c.args.progress.now c.args.empty.now c.requires c.span_end-end.ensures
+      c.loop-at.at c.loop-at.progress c.loop-at.empty c.loop-at.invariant c.loop-at-test.true c.span_end-next.result c.span_end-next.ensures
+      c.step_at-step.new.progress c.step_at-step.result c.step_at-step.ensures c.in-Down.lower c.in-Down.above c.in-Down.is c.if-below-eq1.false,
+)
 
 pub returns-then-reached-next : goal.returns-then-reached-next
 returns-then-reached-next t c = down-returns c.args.reserved c.args.segments.now c.args.words.now c.args.place c.args.level c.args.pages c.args.rights c.args.from c.span_end-end.result c.args.progress.now c.args.empty.now c.requires c.span_end-end.ensures
@@ -48,9 +50,13 @@ returns-then-reached-next t c = down-returns c.args.reserved c.args.segments.now
     c.step_at-step.new.progress c.step_at-step.result c.step_at-step.ensures c.in-Down.lower c.in-Down.above c.in-Down.is c.pass_table-reached.new.progress c.pass_table-reached.new.empty c.pass_table-reached.result c.pass_table-reached.ensures.1) c.if-reached-next.true
 
 pub loop-at-smaller-in-Pass : goal.loop-at-smaller-in-Pass
-loop-at-smaller-in-Pass t c = omega (arith, ahead c.args.reserved c.args.segments.now c.args.words.now c.args.place c.args.level c.args.pages c.args.rights c.args.from c.span_end-end.result c.args.progress.now c.args.empty.now c.requires c.span_end-end.ensures
-    c.loop-at.at c.loop-at.progress c.loop-at.empty c.loop-at.invariant c.loop-at-test.true c.span_end-next.result c.span_end-next.ensures, within-end c.args.reserved c.args.segments.now c.args.words.now c.args.place c.args.level c.args.pages c.args.rights c.args.from c.span_end-end.result c.args.progress.now c.args.empty.now c.requires c.span_end-end.ensures
-    c.loop-at.at c.loop-at.progress c.loop-at.empty c.loop-at.invariant c.loop-at-test.true c.span_end-next.result c.span_end-next.ensures)
+loop-at-smaller-in-Pass t c = omega (
+  arith,
+  ahead c.args.reserved c.args.segments.now c.args.words.now c.args.place c.args.level c.args.pages c.args.rights c.args.from c.span_end-end.result c.args.progress.now c.args.empty.now c.requires c.span_end-end.ensures
+      c.loop-at.at c.loop-at.progress c.loop-at.empty c.loop-at.invariant c.loop-at-test.true c.span_end-next.result c.span_end-next.ensures,
+  within-end c.args.reserved c.args.segments.now c.args.words.now c.args.place c.args.level c.args.pages c.args.rights c.args.from c.span_end-end.result c.args.progress.now c.args.empty.now c.requires c.span_end-end.ensures
+      c.loop-at.at c.loop-at.progress c.loop-at.empty c.loop-at.invariant c.loop-at-test.true c.span_end-next.result c.span_end-next.ensures,
+)
 
 pub loop-at-preserved-in-Pass : goal.loop-at-preserved-in-Pass
 loop-at-preserved-in-Pass t c = passed c.args.reserved c.args.segments.now c.args.words.now c.args.place c.args.level c.args.pages c.args.rights c.args.from c.span_end-end.result c.args.progress.now c.args.empty.now c.requires c.span_end-end.ensures
@@ -58,9 +64,13 @@ loop-at-preserved-in-Pass t c = passed c.args.reserved c.args.segments.now c.arg
     c.step_at-step.new.progress c.step_at-step.result c.step_at-step.ensures c.in-Pass.is
 
 pub loop-at-smaller-else-came-next : goal.loop-at-smaller-else-came-next
-loop-at-smaller-else-came-next t c = omega (arith, ahead c.args.reserved c.args.segments.now c.args.words.now c.args.place c.args.level c.args.pages c.args.rights c.args.from c.span_end-end.result c.args.progress.now c.args.empty.now c.requires c.span_end-end.ensures
-    c.loop-at.at c.loop-at.progress c.loop-at.empty c.loop-at.invariant c.loop-at-test.true c.span_end-next.result c.span_end-next.ensures, within-end c.args.reserved c.args.segments.now c.args.words.now c.args.place c.args.level c.args.pages c.args.rights c.args.from c.span_end-end.result c.args.progress.now c.args.empty.now c.requires c.span_end-end.ensures
-    c.loop-at.at c.loop-at.progress c.loop-at.empty c.loop-at.invariant c.loop-at-test.true c.span_end-next.result c.span_end-next.ensures)
+loop-at-smaller-else-came-next t c = omega (
+  arith,
+  ahead c.args.reserved c.args.segments.now c.args.words.now c.args.place c.args.level c.args.pages c.args.rights c.args.from c.span_end-end.result c.args.progress.now c.args.empty.now c.requires c.span_end-end.ensures
+      c.loop-at.at c.loop-at.progress c.loop-at.empty c.loop-at.invariant c.loop-at-test.true c.span_end-next.result c.span_end-next.ensures,
+  within-end c.args.reserved c.args.segments.now c.args.words.now c.args.place c.args.level c.args.pages c.args.rights c.args.from c.span_end-end.result c.args.progress.now c.args.empty.now c.requires c.span_end-end.ensures
+      c.loop-at.at c.loop-at.progress c.loop-at.empty c.loop-at.invariant c.loop-at-test.true c.span_end-next.result c.span_end-next.ensures,
+)
 
 pub loop-at-preserved-else-came-next : goal.loop-at-preserved-else-came-next
 loop-at-preserved-else-came-next t c = down-passed c.args.reserved c.args.segments.now c.args.words.now c.args.place c.args.level c.args.pages c.args.rights c.args.from c.span_end-end.result c.args.progress.now c.args.empty.now c.requires c.span_end-end.ensures
@@ -71,9 +81,13 @@ loop-at-preserved-else-came-next t c = down-passed c.args.reserved c.args.segmen
     c.step_at-step.new.progress c.step_at-step.result c.step_at-step.ensures c.in-Down.lower c.in-Down.above c.in-Down.is c.if-below-eq1.true c.pass_lowest-came.new.progress c.pass_lowest-came.new.empty c.pass_lowest-came.result c.pass_lowest-came.ensures.1) c.if-came-next.false
 
 pub loop-at-smaller : goal.loop-at-smaller
-loop-at-smaller t c = omega (arith, ahead c.args.reserved c.args.segments.now c.args.words.now c.args.place c.args.level c.args.pages c.args.rights c.args.from c.span_end-end.result c.args.progress.now c.args.empty.now c.requires c.span_end-end.ensures
-    c.loop-at.at c.loop-at.progress c.loop-at.empty c.loop-at.invariant c.loop-at-test.true c.span_end-next.result c.span_end-next.ensures, within-end c.args.reserved c.args.segments.now c.args.words.now c.args.place c.args.level c.args.pages c.args.rights c.args.from c.span_end-end.result c.args.progress.now c.args.empty.now c.requires c.span_end-end.ensures
-    c.loop-at.at c.loop-at.progress c.loop-at.empty c.loop-at.invariant c.loop-at-test.true c.span_end-next.result c.span_end-next.ensures)
+loop-at-smaller t c = omega (
+  arith,
+  ahead c.args.reserved c.args.segments.now c.args.words.now c.args.place c.args.level c.args.pages c.args.rights c.args.from c.span_end-end.result c.args.progress.now c.args.empty.now c.requires c.span_end-end.ensures
+      c.loop-at.at c.loop-at.progress c.loop-at.empty c.loop-at.invariant c.loop-at-test.true c.span_end-next.result c.span_end-next.ensures,
+  within-end c.args.reserved c.args.segments.now c.args.words.now c.args.place c.args.level c.args.pages c.args.rights c.args.from c.span_end-end.result c.args.progress.now c.args.empty.now c.requires c.span_end-end.ensures
+      c.loop-at.at c.loop-at.progress c.loop-at.empty c.loop-at.invariant c.loop-at-test.true c.span_end-next.result c.span_end-next.ensures,
+)
 
 pub loop-at-preserved : goal.loop-at-preserved
 loop-at-preserved t c = down-passed c.args.reserved c.args.segments.now c.args.words.now c.args.place c.args.level c.args.pages c.args.rights c.args.from c.span_end-end.result c.args.progress.now c.args.empty.now c.requires c.span_end-end.ensures

@@ -2,14 +2,13 @@
 use Prim.Native.Nat.{ℕ}
 use mathlib.Core.Path.{sym, ap, ◌∙◌, subst}
 use mathlib.Core.List.{List}
-use mathlib.Core.Option.{Option}
 use lib.Dec.{lit<, eqb}
 use lib.ListN.{length, get_or}
 use Rattle.paging.specs.EmptyTables.{TrueOf}
 use Rattle.paging.specs.Entry.{entry_by}
 use Rattle.paging.specs.Memory.{table_from}
 use Rattle.paging.specs.Packed.{rights_over}
-use Rattle.paging.specs.Pages.{pages_by, PassesPages}
+use Rattle.paging.specs.Pages.{PassesPages}
 use Rattle.paging.proofs.Emptiness.{whole-true, whole_length}
 use Rattle.paging.proofs.Places.{table-length}
 use Rattle.image.proofs.tables.pass_lowest.Goals as goal
@@ -22,8 +21,7 @@ returns c =
     let a = c.args in
     let w = c.pass_pages-reached.new.progress in
     let passed : PassesPages a.reserved (table_from a.words.now a.place) a.rights a.from a.progress.now w c.pass_pages-reached.result
-    = subst (λ (t : List ℕ). PassesPages a.reserved t a.rights a.from a.progress.now w c.pass_pages-reached.result) c.table_at-table.ensures c.pass_pages-reached.ensures in
-    (
+    = subst (λ (t : List ℕ). PassesPages a.reserved t a.rights a.from a.progress.now w c.pass_pages-reached.result) c.table_at-table.ensures c.pass_pages-reached.ensures in (
       ap length c.remember_whole.ensures ∙ whole_length a.empty.now (eqb (get_or w 0 0) 0) a.place 0 a.from,
       λ memory h. (
         passed memory,
