@@ -7,7 +7,8 @@ mod question;
 
 use crate::line::Line;
 use crate::question::agrees;
-use libc::{STDIN_FILENO, STDOUT_FILENO};
+use std::io;
+use std::io::{Read as _, Stdin};
 
 // The line being read, how many were read, how many of them differ, and the first that does.
 #[derive(Drop)]
@@ -66,6 +67,9 @@ fn fed(r: Replay, bytes: &[u8]) -> Replay {
     now
 }
 
+// The most bytes of a read.
+const BUFFER_BYTES: usize = 65536;
+
 // What a read brought, and whether the input may go on.
 #[derive(Drop)]
 struct Read {
@@ -73,19 +77,19 @@ struct Read {
     more: bool,
 }
 
-fn read_some(r: Replay) -> Read {
-    let mut buffer = io::large_buffer();
-    let n = io::read_full(STDIN_FILENO, &mut buffer);
+fn read_some(input: &mut Stdin, r: Replay) -> io::Result<Read> {
+    let mut buffer = [0u8; BUFFER_BYTES];
+    let n = input.read(&mut buffer)?;
     let replay = fed(r, &buffer[..n]);
-    Read {
+    Ok(Read {
         replay,
         more: 0 < n,
-    }
+    })
 }
 
 // A proved loop has to end, and nothing says that the input does: the loop counts its turns down
 // from a number that no run uses up.
-fn read_all() -> Replay {
+fn read_all(input: &mut Stdin) -> io::Result<Replay> {
     let mut replay = Replay {
         line: Line::new(),
         lines: 0,
@@ -94,14 +98,14 @@ fn read_all() -> Replay {
     };
     let mut turns = u64::MAX;
     while 0 < turns {
-        let read = read_some(replay);
+        let read = read_some(input, replay)?;
         replay = read.replay;
         if !read.more {
             break;
         }
         turns -= 1;
     }
-    replay
+    Ok(replay)
 }
 
 // A last line without an end counts too.
@@ -112,15 +116,14 @@ fn ended(r: Replay) -> Replay {
     judged(r)
 }
 
-fn main() {
-    let r = ended(read_all());
-    io::print_decimal(STDOUT_FILENO, r.lines);
-    io::write_all(STDOUT_FILENO, b" answers replayed, ");
-    io::print_decimal(STDOUT_FILENO, r.differ);
-    io::write_all(STDOUT_FILENO, b" differ");
-    if 0 < r.differ {
-        io::write_all(STDOUT_FILENO, b", first on line ");
-        io::print_decimal(STDOUT_FILENO, r.first);
+fn main(rt: HostRuntime) -> io::Result<()> {
+    let r = ended(read_all(&mut rt.stdin())?);
+    let lines = r.lines;
+    let differ = r.differ;
+    print!(rt; "{lines} answers replayed, {differ} differ")?;
+    if 0 < differ {
+        let first = r.first;
+        print!(rt; ", first on line {first}")?;
     }
-    io::write_all(STDOUT_FILENO, b"\n");
+    println!(rt;)
 }

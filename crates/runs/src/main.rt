@@ -1,7 +1,7 @@
 // Reads an image file from standard input and prints its mapped runs and stops, a line each.
 #![tactic(auto)]
 
-ghost use Rattle.std.specs.Prelude.{◌+◌, ◌*◌, ◌/◌, ◌≤◌, length};
+ghost use Rattle.std.specs.Prelude.{◌+◌, ◌*◌, ◌/◌, ◌≤◌, length, IfOk};
 ghost use Rattle.listing.specs.Text.{line_bytes};
 ghost use Rattle.paging.specs.Search.{answer_words};
 ghost use Rattle.runs.specs.Sizes.{output_bytes};
@@ -10,13 +10,17 @@ use addr::VirtAddr;
 use found::{END, RESERVED, RUN};
 use image::{ANSWER_WORDS, ListAnswer, list};
 use input::{Header, HeaderAnswer, MOST_WORDS, read_header, read_words};
-use libc::{STDIN_FILENO, STDOUT_FILENO};
 use listing::{LINE_BYTES, Line, end_line, more_line, refused_line, run_line, stop_line};
 use page::Page;
 use phys::PhysAddr;
+use std::io;
+use std::io::{Read, Stdin, Write};
 
 // The most runs and stops that are printed.
 const MOST_LINES: usize = 4096;
+
+// The most bytes that are read. A file has fewer, so one that is longer is refused all the same.
+const MOST_BYTES: usize = 65536;
 
 // The most tables that an image file has.
 const MOST_TABLES: usize = MOST_WORDS / 512;
@@ -139,11 +143,26 @@ fn put_file(out: &mut [u8], bytes: &[u8]) -> usize
     }
 }
 
-fn main() {
-    let mut bytes = io::large_buffer();
-    let n = io::read_full(STDIN_FILENO, &mut bytes);
+// Reads until buf is full or the input ends, and answers how many bytes it put at the start of buf.
+fn read_full(input: &mut Stdin, buf: &mut [u8]) -> io::Result<usize>
+    ensures { IfOk result (λ n. n ≤ length buf.new) }
+{
+    let mut done = 0;
+    while done < buf.len() {
+        let n = input.read(&mut buf[done..])?;
+        if n == 0 {
+            break;
+        }
+        done += n;
+    }
+    Ok(done)
+}
+
+fn main(rt: HostRuntime) -> io::Result<()> {
+    let mut bytes = [0u8; MOST_BYTES];
+    let n = read_full(&mut rt.stdin(), &mut bytes)?;
     // The last line stands behind the others.
     let mut out = [0u8; (MOST_LINES + 1) * LINE_BYTES];
     let used = put_file(&mut out, &bytes[..n]);
-    io::write_all(STDOUT_FILENO, &out[..used]);
+    rt.stdout().write_all(&out[..used])
 }
