@@ -9,15 +9,12 @@ use Rattle.empty_tables.proofs.empty_tables.remember_whole.Goals as goal
 
 pub returns-then-within_span-eq0 : goal.returns-then-within_span-eq0
 returns-then-within_span-eq0 c =
-    let r = c in
-    let o = r in
-    let a = o.args in
-    let all : eqb (within (a.below % 8 + 1) a.from) 0 ≡ true = eq-eqb (within (a.below % 8 + 1) a.from) 0 (sym r.within_span.ensures ∙ r.if-within_span-eq0.true) in
-    r.remember.ensures ∙ sym (simp (o.if-nothing.true, all))
+    let far = within (c.args.below % 8 + 1) c.args.from in
+    let all : eqb far 0 ≡ true = eq-eqb far 0 (sym c.within_span.ensures ∙ c.if-within_span-eq0.true) in
+    c.remember.ensures ∙ sym (simp (c.if-nothing.true, all))
 
 pub returns-else-within_span-eq0 : goal.returns-else-within_span-eq0
 returns-else-within_span-eq0 c =
-    let o = c in
-    let a = o.args in
-    let part : eqb (within (a.below % 8 + 1) a.from) 0 ≡ false = ne_eqb (within (a.below % 8 + 1) a.from) 0 (λ e. c.if-within_span-eq0.false (c.within_span.ensures ∙ e)) in
-    simp (o.if-nothing.true, part)
+    let far = within (c.args.below % 8 + 1) c.args.from in
+    let part : eqb far 0 ≡ false = ne_eqb far 0 (λ e. c.if-within_span-eq0.false (c.within_span.ensures ∙ e)) in
+    simp (c.if-nothing.true, part)

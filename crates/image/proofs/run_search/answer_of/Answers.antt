@@ -12,7 +12,6 @@ use Rattle.paging.specs.Search.{Report, stop, run}
 use Rattle.image.proofs.Founds.{reported-end, reported-run, reported-reserved, reported-outside, run-bounds, page-bound}
 use Rattle.image.proofs.run_search.answer_of.Goals as goal
 
--- HELPER
 same-run : {p p' f f' : Item} {c : ℕ} {h h' : Rights} → p ≡ p' → f ≡ f' → h ≡ h' → ◌≡◌ {A = Outcome Report} (gives (run p f c h)) (gives (run p' f' c h'))
 same-run i j l = cc
 
