@@ -46,7 +46,75 @@ table-pages level pages i e =
 pub span-small : (level : ℕ) → level ≤ 5 → span_pages level ≤ 2 ^ 45
 span-small level h = pow_mono {i = 9 * level} {j = 45} (omega arith)
 
-module _ (mask : ℕ) (segments words : List ℕ) (place level pages all from end : ℕ) (before bytes₀ : List ℕ) (asked : Asked mask segments words place level pages from before bytes₀) (end-is : end ≡ after level from) where
+-- a table that is gone over, with the words and the bytes before
+pub record Table : Type 0 where
+  pub mask : ℕ
+  pub segments : List ℕ
+  pub words : List ℕ
+  pub place : ℕ
+  pub level : ℕ
+  pub pages : ℕ
+  pub all : ℕ
+  pub from : ℕ
+  pub end : ℕ
+  pub before : List ℕ
+  pub bytes₀ : List ℕ
+  pub asked : Asked mask segments words place level pages from before bytes₀
+  pub end-is : end ≡ after level from
+
+-- a turn: page `at`, and what the search did at its entry, with all of the bytes lent as a part
+pub record Entry (w : Table) : Type 0 where
+  pub at : ℕ
+  pub now : List ℕ
+  pub bytes : List ℕ
+  pub next : ℕ
+  pub later : List ℕ
+  pub result : Step
+  pub passed-to : PassedTo w.mask w.segments w.words w.place w.level w.all w.from w.end w.before w.bytes₀ at now bytes
+  pub inside : at < w.end
+  pub next-is : next ≡ after (w.level - 1) at
+  pub done : Steps (segments_in w.segments) w.mask (get_or w.words (w.place + at / span_pages (w.level - 1) % 512) 0) (w.level - 1) at w.all (take (length bytes - 0) bytes) now later result
+
+module _ (w : Table) where
+  abbrev mask : ℕ
+  mask = w.mask
+
+  abbrev segments : List ℕ
+  segments = w.segments
+
+  abbrev words : List ℕ
+  words = w.words
+
+  abbrev place : ℕ
+  place = w.place
+
+  abbrev level : ℕ
+  level = w.level
+
+  abbrev pages : ℕ
+  pages = w.pages
+
+  abbrev all : ℕ
+  all = w.all
+
+  abbrev from : ℕ
+  from = w.from
+
+  abbrev end : ℕ
+  end = w.end
+
+  abbrev before : List ℕ
+  before = w.before
+
+  abbrev bytes₀ : List ℕ
+  bytes₀ = w.bytes₀
+
+  asked : Asked mask segments words place level pages from before bytes₀
+  asked = w.asked
+
+  end-is : end ≡ after level from
+  end-is = w.end-is
+
   abbrev n : ℕ
   n = level - 1
 
@@ -101,121 +169,143 @@ module _ (mask : ℕ) (segments words : List ℕ) (place level pages all from en
       ),
     )
 
-    module _ (inside : at < end) (next : ℕ) (next-is : next ≡ after n at) where
-      abbrev word : ℕ
-      word = get_or words (place + at / span_pages n % 512) 0
+  module _ (e : Entry w) where
+    abbrev at : ℕ
+    at = e.at
 
-      the-word : word_for table n at ≡ word
-      the-word = table-word words place (at / span_pages n % 512) (index-lt at n)
+    abbrev now : List ℕ
+    now = e.now
 
-      pub ahead : at < next
-      ahead = omega (arith, next-is, ahead_of n at)
+    abbrev bytes : List ℕ
+    bytes = e.bytes
 
-      pub within-end : next ≤ end
-      within-end = omega (arith, next-is, ends, nested n from at (omega (arith, asked.3)) (omega (arith, ends)))
+    abbrev next : ℕ
+    next = e.next
 
-      pub top : at < 2 ^ 45
-      top = omega (arith, end-top)
+    abbrev later : List ℕ
+    later = e.later
 
-      -- it comes to a page in the entry's span, or to its end
-      returned : (u b : List ℕ) (y : ℕ) → y < next → TrueIn mask (segments_in segments) words b → length b ≡ length bytes₀ → Passes states at next now u y → Done u b y
-      returned u b y l h s p = (s, (to-level u y (passes-in states from at next before now u v.2 (omega (arith, ahead)) v.5 y end within-end l p), h))
+    abbrev r : Step
+    r = e.result
 
-      onward : (u b : List ℕ) → TrueIn mask (segments_in segments) words b → length b ≡ length bytes₀ → Passes states at next now u next → PassedTo mask segments words place level all from end before bytes₀ next u b
-      onward u b h s p = (
-        still-goes states at next now u v.0 p,
-        h,
-        omega (arith, v.2, ahead),
-        within-end,
-        s,
-        passes_on states from at next before now u v.2 (omega (arith, ahead)) v.5 p,
-      )
+    v : PassedTo mask segments words place level all from end before bytes₀ at now bytes
+    v = e.passed-to
 
-      to-next : (u : List ℕ) (y : ℕ) → Passes states at (after n at) now u y → Passes states at next now u y
-      to-next u y p = subst (λ (e : ℕ). Passes states at e now u y) (sym next-is) p
+    next-is : next ≡ after n at
+    next-is = e.next-is
 
-      -- what the search does at the entry, with all of the bytes lent as a part
-      module _ (later : List ℕ) (r : Step) (done : Steps (segments_in segments) mask word n at all (take (length bytes - 0) bytes) now later r) where
-        steps : (s : Step) → r ≡ s → Steps (segments_in segments) mask word n at all (take (length bytes - 0) bytes) now later s
-        steps s e = subst (λ (k : Step). Steps (segments_in segments) mask word n at all (take (length bytes - 0) bytes) now later k) e done
+    abbrev word : ℕ
+    word = get_or words (place + at / span_pages n % 512) 0
 
-        pub halted : r ≡ step.Halt → Done later bytes at
-        halted e = returned later bytes at ahead v.1 v.4 (to-next later at (steps step.Halt e words table the-word))
+    the-word : word_for table n at ≡ word
+    the-word = table-word words place (at / span_pages n % 512) (index-lt at n)
 
-        pub passed : r ≡ step.Pass → PassedTo mask segments words place level all from end before bytes₀ next later bytes
-        passed e =
-            onward later bytes v.1 v.4
-            (to-next later next
-            (subst (λ (y : ℕ). Passes states at (after n at) now later y) (sym next-is)
-            (steps step.Pass e words table (subst (λ (l : List ℕ). TrueIn mask (segments_in segments) words l) (sym (whole_part bytes)) v.1) the-word)))
+    pub ahead : at < next
+    ahead = omega (arith, next-is, ahead_of n at)
 
-        module _ (lower above : ℕ) (is : r ≡ step.Down lower above) where
-          down : Steps (segments_in segments) mask word n at all (take (length bytes - 0) bytes) now later (step.Down lower above)
-          down = steps (step.Down lower above) is
+    pub within-end : next ≤ end
+    within-end = omega (arith, next-is, ends, nested n from at (omega (arith, asked.3)) (omega (arith, ends, e.inside)))
 
-          pub going : GoesOn later at
-          going = subst (λ (w : List ℕ). GoesOn w at) (sym down.0) v.0
+    pub top : at < 2 ^ 45
+    top = omega (arith, end-top, e.inside)
 
-          pub room : lower + 512 ≤ length words
-          room = omega (arith, down.1, asked.6.1)
+    -- it comes to a page in the entry's span, or to its end
+    returned : (u b : List ℕ) (y : ℕ) → y < next → TrueIn mask (segments_in segments) words b → length b ≡ length bytes₀ → Passes states at next now u y → Done u b y
+    returned u b y l h s p = (s, (to-level u y (passes-in states from at next before now u v.2 (omega (arith, ahead)) v.5 y end within-end l p), h))
 
-          abbrev lower-states : ℕ → PageState
-          lower-states = pages_by mask memory n (table_from words lower) (rights_over above)
+    onward : (u b : List ℕ) → TrueIn mask (segments_in segments) words b → length b ≡ length bytes₀ → Passes states at next now u next → PassedTo mask segments words place level all from end before bytes₀ next u b
+    onward u b h s p = (
+      still-goes states at next now u v.0 p,
+      h,
+      omega (arith, v.2, ahead),
+      within-end,
+      s,
+      passes_on states from at next before now u v.2 (omega (arith, ahead)) v.5 p,
+    )
 
-          -- as far as it comes there it comes here
-          here-too : (u : List ℕ) (y : ℕ) → Passes lower-states at (after n at) later u y → Passes states at next now u y
-          here-too u y p =
-              to-next u y
-              (passes-congr states lower-states at (after n at) now u y (omega (arith, ahead_of n at)) (λ x i j. down.2 words table the-word x i j)
-              (subst (λ (w : List ℕ). Passes lower-states at (after n at) w u y) down.0 p))
+    to-next : (u : List ℕ) (y : ℕ) → Passes states at (after n at) now u y → Passes states at next now u y
+    to-next u y p = subst (λ (e : ℕ). Passes states at e now u y) (sym next-is) p
 
-          -- no further than the end of the entry's span
-          at-end : (u : List ℕ) (y : ℕ) → next ≤ y → Passes states at next now u y → Passes states at next now u next
-          at-end u y h p =
-              let l : y ≤ next = passes-le states at next now u y (omega (arith, ahead)) v.0 p in
-              let e : y ≡ next = omega arith in
-              subst (λ (x : ℕ). Passes states at next now u x) e p
+    steps : (s : Step) → r ≡ s → Steps (segments_in segments) mask word n at all (take (length bytes - 0) bytes) now later s
+    steps s k = subst (λ (l : Step). Steps (segments_in segments) mask word n at all (take (length bytes - 0) bytes) now later l) k e.done
 
-          -- the lower table was gone over
-          module _ (u b : List ℕ) (y : ℕ) (long : length b ≡ length bytes) (found : Searched mask memory words n lower above at later u b y) where
-            pub down-returns : y < next → Done u b y
-            down-returns l = returned u b y l found.1 (long ∙ v.4) (here-too u y found.0)
+    pub halted : r ≡ step.Halt → Done later bytes at
+    halted e = returned later bytes at ahead v.1 v.4 (to-next later at (steps step.Halt e words table the-word))
 
-            pub down-passed : next ≤ y → PassedTo mask segments words place level all from end before bytes₀ next u b
-            down-passed l = onward u b found.1 (long ∙ v.4) (at-end u y l (here-too u y found.0))
+    pub passed : r ≡ step.Pass → PassedTo mask segments words place level all from end before bytes₀ next later bytes
+    passed e =
+        onward later bytes v.1 v.4
+        (to-next later next
+        (subst (λ (y : ℕ). Passes states at (after n at) now later y) (sym next-is)
+        (steps step.Pass e words table (subst (λ (l : List ℕ). TrueIn mask (segments_in segments) words l) (sym (whole_part bytes)) v.1) the-word)))
 
-          -- where the image and the segments are lent whole as parts
-          pub of-lowest : n ≡ 1 → (u b : List ℕ) (y : ℕ) → SearchedLowest mask (take (length words - 0) words) lower above at later u bytes b y → Searched mask memory words n lower above at later u b y
-          of-lowest one u b y s =
-              let w = subst (λ (l : List ℕ). SearchedLowest mask l lower above at later u bytes b y) (whole_part words) s in
-              subst (λ (l : ℕ). Searched mask memory words l lower above at later u b y) (sym one) (w memory v.1)
+    module _ (lower above : ℕ) (is : r ≡ step.Down lower above) where
+      down : Steps (segments_in segments) mask word n at all (take (length bytes - 0) bytes) now later (step.Down lower above)
+      down = steps (step.Down lower above) is
 
-          pub of-higher : (u b : List ℕ) (y : ℕ)
-              → Searched mask (table_in (segments_in (take (length segments - 0) segments)) (take (length words - 0) words)) (take (length words - 0) words) n lower above at later u b y
-              → Searched mask memory words n lower above at later u b y
-          of-higher u b y s =
-              let g = subst (λ (l : List ℕ). Searched mask (table_in (segments_in l) (take (length words - 0) words)) (take (length words - 0) words) n lower above at later u b y) (whole_part segments) s in
-              subst (λ (l : List ℕ). Searched mask (table_in (segments_in segments) l) l n lower above at later u b y) (whole_part words) g
+      pub going : GoesOn later at
+      going = subst (λ (w : List ℕ). GoesOn w at) (sym down.0) v.0
 
-          pub lowest-asked : GoesOn later at × (lower + 512 ≤ length (take (length words - 0) words)) × (at < 2 ^ 45)
-          lowest-asked = (going, subst (λ (w : List ℕ). lower + 512 ≤ length w) (sym (whole_part words)) room, top)
+      pub room : lower + 512 ≤ length words
+      room = omega (arith, down.1, asked.6.1)
 
-          pub higher-asked : (n ≡ 1 → ⊥) → Asked mask (take (length segments - 0) segments) (take (length words - 0) words) lower n (pages / 2 ^ 9) at later bytes
-          higher-asked above-one =
-              let w = sym (whole_part words) in
-              let g = sym (whole_part segments) in
-              let two : 2 ≤ n = omega (arith, asked.2, above-one) in
-              let m : n - 1 + 1 ≡ n = omega arith in
-              let span : pages / 2 ^ 9 ≡ span_pages (n - 1) = ap (λ (x : ℕ). x / 2 ^ 9) (asked.4 ∙ ap span_pages (sym m)) ∙ narrow (n - 1) in (
-                going,
-                subst (λ (l : List ℕ). TrueOf (entry_by mask) (table_in (segments_in l) (take (length words - 0) words)) (take (length words - 0) words) bytes) g
-                    (subst (λ (l : List ℕ). TrueOf (entry_by mask) (table_in (segments_in segments) l) l bytes) w v.1),
-                two,
-                omega (arith, asked.3),
-                span,
-                top,
-                (
-                  subst (λ (l : List ℕ). lower + 512 ≤ length l) w room,
-                  subst (λ (l : List ℕ). total (segments_in l) ≡ length (take (length words - 0) words)) g (asked.6.1 ∙ ap (λ (l : List ℕ). length l) w),
-                ),
-              )
+      abbrev lower-states : ℕ → PageState
+      lower-states = pages_by mask memory n (table_from words lower) (rights_over above)
+
+      -- as far as it comes there it comes here
+      here-too : (u : List ℕ) (y : ℕ) → Passes lower-states at (after n at) later u y → Passes states at next now u y
+      here-too u y p =
+          to-next u y
+          (passes-congr states lower-states at (after n at) now u y (omega (arith, ahead_of n at)) (λ x i j. down.2 words table the-word x i j)
+          (subst (λ (w : List ℕ). Passes lower-states at (after n at) w u y) down.0 p))
+
+      -- no further than the end of the entry's span
+      at-end : (u : List ℕ) (y : ℕ) → next ≤ y → Passes states at next now u y → Passes states at next now u next
+      at-end u y h p =
+          let l : y ≤ next = passes-le states at next now u y (omega (arith, ahead)) v.0 p in
+          let e : y ≡ next = omega arith in
+          subst (λ (x : ℕ). Passes states at next now u x) e p
+
+      -- the lower table was gone over
+      module _ (u b : List ℕ) (y : ℕ) (long : length b ≡ length bytes) (found : Searched mask memory words n lower above at later u b y) where
+        pub down-returns : y < next → Done u b y
+        down-returns l = returned u b y l found.1 (long ∙ v.4) (here-too u y found.0)
+
+        pub down-passed : next ≤ y → PassedTo mask segments words place level all from end before bytes₀ next u b
+        down-passed l = onward u b found.1 (long ∙ v.4) (at-end u y l (here-too u y found.0))
+
+      -- where the image and the segments are lent whole as parts
+      pub of-lowest : n ≡ 1 → (u b : List ℕ) (y : ℕ) → SearchedLowest mask (take (length words - 0) words) lower above at later u bytes b y → Searched mask memory words n lower above at later u b y
+      of-lowest one u b y s =
+          let w = subst (λ (l : List ℕ). SearchedLowest mask l lower above at later u bytes b y) (whole_part words) s in
+          subst (λ (l : ℕ). Searched mask memory words l lower above at later u b y) (sym one) (w memory v.1)
+
+      pub of-higher : (u b : List ℕ) (y : ℕ)
+          → Searched mask (table_in (segments_in (take (length segments - 0) segments)) (take (length words - 0) words)) (take (length words - 0) words) n lower above at later u b y
+          → Searched mask memory words n lower above at later u b y
+      of-higher u b y s =
+          let g = subst (λ (l : List ℕ). Searched mask (table_in (segments_in l) (take (length words - 0) words)) (take (length words - 0) words) n lower above at later u b y) (whole_part segments) s in
+          subst (λ (l : List ℕ). Searched mask (table_in (segments_in segments) l) l n lower above at later u b y) (whole_part words) g
+
+      pub lowest-asked : GoesOn later at × (lower + 512 ≤ length (take (length words - 0) words)) × (at < 2 ^ 45)
+      lowest-asked = (going, subst (λ (w : List ℕ). lower + 512 ≤ length w) (sym (whole_part words)) room, top)
+
+      pub higher-asked : (n ≡ 1 → ⊥) → Asked mask (take (length segments - 0) segments) (take (length words - 0) words) lower n (pages / 2 ^ 9) at later bytes
+      higher-asked above-one =
+          let w = sym (whole_part words) in
+          let g = sym (whole_part segments) in
+          let two : 2 ≤ n = omega (arith, asked.2, above-one) in
+          let m : n - 1 + 1 ≡ n = omega arith in
+          let span : pages / 2 ^ 9 ≡ span_pages (n - 1) = ap (λ (x : ℕ). x / 2 ^ 9) (asked.4 ∙ ap span_pages (sym m)) ∙ narrow (n - 1) in (
+            going,
+            subst (λ (l : List ℕ). TrueOf (entry_by mask) (table_in (segments_in l) (take (length words - 0) words)) (take (length words - 0) words) bytes) g
+                (subst (λ (l : List ℕ). TrueOf (entry_by mask) (table_in (segments_in segments) l) l bytes) w v.1),
+            two,
+            omega (arith, asked.3),
+            span,
+            top,
+            (
+              subst (λ (l : List ℕ). lower + 512 ≤ length l) w room,
+              subst (λ (l : List ℕ). total (segments_in l) ≡ length (take (length words - 0) words)) g (asked.6.1 ∙ ap (λ (l : List ℕ). length l) w),
+            ),
+          )

@@ -19,15 +19,14 @@ pub returns-then-kind-eq-END : goal.returns-then-kind-eq-END
 returns-then-kind-eq-END c a e = reported-end _ c.args.found a e c.if-kind-eq-END.true
 
 pub numbered_page-page-requires : goal.numbered_page-page-requires
-numbered_page-page-requires c = let s = c in omega (arith, s.requires.0, page-bound s.args.found (span_pages (levels_of s.args.width)) s.requires (pow_pos (9 * levels_of s.args.width)))
+numbered_page-page-requires c = omega (arith, c.requires.0, page-bound c.args.found (span_pages (levels_of c.args.width)) c.requires (pow_pos (9 * levels_of c.args.width)))
 
 pub numbered_frame-requires : goal.numbered_frame-requires
-numbered_frame-requires c = let s = c in (run-bounds s.args.found (span_pages (levels_of s.args.width)) s.requires c.if-kind-eq-RUN.true).1
+numbered_frame-requires c = (run-bounds c.args.found (span_pages (levels_of c.args.width)) c.requires c.if-kind-eq-RUN.true).1
 
 pub returns-then-kind-eq-RUN : goal.returns-then-kind-eq-RUN
 returns-then-kind-eq-RUN c a e =
-    let s = c in
-    same-run c.numbered_page-page.ensures c.numbered_frame.ensures c.rights_from.ensures ∙ reported-run _ s.args.found a e c.if-kind-eq-RUN.true
+    same-run c.numbered_page-page.ensures c.numbered_frame.ensures c.rights_from.ensures ∙ reported-run _ c.args.found a e c.if-kind-eq-RUN.true
 
 pub returns-then-kind-eq-RESERVED : goal.returns-then-kind-eq-RESERVED
 returns-then-kind-eq-RESERVED c a e =
