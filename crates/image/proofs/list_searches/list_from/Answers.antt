@@ -44,21 +44,12 @@ loop-at-init c =
     let a = c.args in
     (first-turn (width_of a.width) (pages_from a.reserved (segments_in a.segments.now) a.words.now (levels_of a.width) a.root) a.page a.out.now (omega (arith, c.requires.0)), (refl, c.requires.1))
 
-pub overflow_sub-out : goal.overflow_sub-out
-overflow_sub-out c = omega (arith, turns.same_length c.loop-at.invariant.0, c.loop-at.invariant.0.has_room)
-
-pub numbered_page-requires : goal.numbered_page-requires
-numbered_page-requires c = omega (arith, c.loop-at-test.true, c.page_count-pages.ensures, pages-top c.args.width)
-
 pub returns-then-out-used-lt-ANSWER_WORDS : goal.returns-then-out-used-lt-ANSWER_WORDS
 returns-then-out-used-lt-ANSWER_WORDS c = (
   ap (λ (k : Item). record { answer = gives (record { written = c.loop-at.written; next = some k }); words = c.loop-at.out }) c.numbered_page.ensures
       ∙ full c.loop-at.invariant.0 (omega (arith, c.loop-at-test.true, c.page_count-pages.ensures)) c.if-out-used-lt-ANSWER_WORDS.true,
   c.loop-at.invariant.1,
 )
-
-pub find-found-requires : goal.find-found-requires
-find-found-requires c = (omega (arith, c.loop-at-test.true, c.page_count-pages.ensures), c.loop-at.invariant.1.1, c.requires.2)
 
 pub store-requires : goal.store-requires
 store-requires c =
@@ -72,9 +63,6 @@ next_page-at-requires c =
     let a = c.args in
     subst (λ (n : ℕ). OfAnswer n c.find-found.result) (sym c.page_count-pages.ensures)
     (answers a.reserved (segments_in a.segments.now) a.words.now a.width a.root c.loop-at.at c.find-found.result c.loop-at.invariant.0.inside c.find-found.ensures.0)
-
-pub overflow_add-written : goal.overflow_add-written
-overflow_add-written c = omega (arith, c.loop-at.invariant.0.five-each)
 
 pub loop-at-smaller : goal.loop-at-smaller
 loop-at-smaller c =

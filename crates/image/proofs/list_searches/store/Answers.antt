@@ -3,7 +3,7 @@ use Prim.Native.Nat.{ℕ, ◌+◌, ◌*◌}
 use mathlib.Core.Path.{ap, ◌∙◌}
 use mathlib.Core.List.{List, ◌++◌}
 use native.Mathlib.Omega.{arith}
-use lib.ListN.{length-set, take, drop}
+use lib.ListN.{take, drop}
 use lib.Pow.{pow_pos}
 use Rattle.mapping.specs.Walk.{span_pages}
 use Rattle.laws.specs.Item.{Item}
@@ -19,18 +19,6 @@ numbered_page-page-requires c = omega (arith, c.requires.1.0, page-bound c.args.
 
 pub overflow_mul-place : goal.overflow_mul-place
 overflow_mul-place c = omega (arith, run-bounds c.args.found (span_pages (levels_of c.args.width)) c.requires.1 c.if-kind-eq-RUN.true)
-
-pub bounds-out-at-2 : goal.bounds-out-at-2
-bounds-out-at-2 c = simp length-set (omega arith)
-
-pub bounds-out-at-3 : goal.bounds-out-at-3
-bounds-out-at-3 c = simp length-set (omega arith)
-
-pub bounds-out-at-4 : goal.bounds-out-at-4
-bounds-out-at-4 c = simp length-set (omega arith)
-
-pub bounds-out-at-5 : goal.bounds-out-at-5
-bounds-out-at-5 c = simp length-set (omega arith)
 
 pub returns : goal.returns
 returns c a e =

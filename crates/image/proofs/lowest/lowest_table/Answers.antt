@@ -10,26 +10,11 @@ use Rattle.paging.specs.Pages.{pages_by}
 use Rattle.walk.specs.declared.look.Look.TheVariants as look
 use Rattle.walk.specs.declared.memory.Place.TheVariants as place
 use Rattle.image.proofs.EntrySteps.{told, found-at}
-use Rattle.image.proofs.LowestTurn.{at-root, next-down, index-lt}
+use Rattle.image.proofs.LowestTurn.{at-root, next-down}
 use Rattle.image.proofs.lowest.lowest_table.Goals as goal
 
 pub loop-below-init : goal.loop-below-init
 loop-below-init c = at-root c.args.reserved (segments_in c.args.segments.now) c.args.words.now c.args.level c.args.root c.args.page c.requires.2.1 c.requires.0 c.requires.1 c.requires.2.0
-
-pub overflow_mul-word : goal.overflow_mul-word
-overflow_mul-word c = omega (arith, c.loop-below.invariant.0)
-
-pub overflow_shr-word : goal.overflow_shr-word
-overflow_shr-word c = omega (arith, c.loop-below.invariant.0)
-
-pub overflow_add-word : goal.overflow_add-word
-overflow_add-word c = omega (arith, c.loop-below.invariant.1, index-lt c.args.page c.loop-below.below)
-
-pub offset_bounds-words-place : goal.offset_bounds-words-place
-offset_bounds-words-place c = omega (arith, c.loop-below.invariant.1, index-lt c.args.page c.loop-below.below)
-
-pub bounds-words-place : goal.bounds-words-place
-bounds-words-place c = omega (arith, c.loop-below.invariant.1, index-lt c.args.page c.loop-below.below)
 
 pub loop-below-preserved : goal.loop-below-preserved
 loop-below-preserved c =

@@ -1,7 +1,6 @@
 -- `pass_pages` goes over the pages of a table of level 1.
 use mathlib.Core.Path.{sym, ◌∙◌}
 use mathlib.Core.Bool.{true, false}
-use native.Mathlib.Omega.{arith}
 use Prim.Native.Nat.{◌+◌, ◌-◌, ◌/◌, ◌%◌, ◌^◌}
 use lib.ListN.{get_or}
 use Rattle.image.proofs.Taking.{taking}
@@ -11,16 +10,10 @@ use Rattle.image.proofs.pages.pass_pages.Goals as goal
 pub loop-i-init : goal.loop-i-init
 loop-i-init c = at-first c.args.reserved c.args.rights c.args.from c.args.table.now c.args.progress.now c.requires.1
 
-pub stop-requires : goal.stop-requires
-stop-requires c = c.loop-i.invariant.2
-
 pub returns-then-word-reserved-ne0 : goal.returns-then-word-reserved-ne0
 returns-then-word-reserved-ne0 c =
     reserved-page c.args.reserved c.args.rights c.args.from c.args.table.now c.args.progress.now c.loop-i.progress c.loop-i.i c.loop-i.invariant c.loop-i-test.true
     (sym c.is_present-present.ensures ∙ c.if-present.true) c.if-word-reserved-ne0.true c.stop.new.progress c.stop.ensures
-
-pub take-taken-requires : goal.take-taken-requires
-take-taken-requires c = (c.loop-i.invariant.2, omega (arith, c.requires, c.loop-i-test.true))
 
 pub returns-then-not-taken : goal.returns-then-not-taken
 returns-then-not-taken c =
