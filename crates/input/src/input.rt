@@ -42,6 +42,7 @@ fn field_at(bytes: &[u8], i: usize, k: usize) -> u64
 }
 
 // What the header says; 13 if the version, the word count or the length of the file is wrong.
+#[tactic(auto, using(std::proofs::lemmas::Bool::Decides::nat_tests), unfolding(crate::specs::Input::header_of))]
 pub fn read_header(bytes: &[u8]) -> HeaderAnswer
     ensures { header_in result ≡ header_of bytes.now }
 {
