@@ -6,7 +6,6 @@ use mathlib.Core.Option.{Option}
 use native.Mathlib.Omega.{arith}
 use lib.Dec.{eqb}
 use lib.ListN.{length, get_or, take}
-use lib.Pow.{pow_mono}
 use Rattle.mapping.specs.Pages.{PageState}
 use Rattle.mapping.specs.Walk.{span_pages, word_for}
 use Rattle.paging.specs.EmptyTables.{TrueIn, TrueOf, marking_whole}
@@ -42,9 +41,6 @@ pub table-pages : (level pages : ℕ) → 2 ≤ level → pages ≡ span_pages (
 table-pages level pages i e =
     let up : level - 1 + 1 ≡ level = omega arith in
     ap (λ (n : ℕ). n * 512) e ∙ wide (level - 1) ∙ ap span_pages up
-
-pub span-small : (level : ℕ) → level ≤ 5 → span_pages level ≤ 2 ^ 45
-span-small level h = pow_mono {i = 9 * level} {j = 45} (omega arith)
 
 -- a table that is gone over, with the words and the bytes before
 pub record Table : Type 0 where
