@@ -8,5 +8,5 @@
 mod virt_addr;
 mod width;
 
-pub use virt_addr::{VirtAddr, VirtAnswer};
+pub use virt_addr::VirtAddr;
 pub use width::Width;

@@ -1,15 +1,43 @@
 // The width of virtual addresses, and what depends on it.
 ghost use Rattle.std.specs.Prelude.{◌≡◌, ◌^◌};
+ghost use Rattle.laws.specs.Address.{virt};
 ghost use Rattle.laws.specs.Width.{low, half, first_high, sign_extend, canonical};
+ghost use Rattle.laws.proofs.Item.{virt-argument};
 ghost use Rattle.addr.specs.Widths.{width_of};
+
+use address::Addresses;
+use answer::Refusal;
 
 // 48 bits with four levels of tables, 57 with five. The names of the source, and all that pages, images
 // and the C interface offer, are at 48 bits; 57 is prepared for boards with five levels, whose fifth
 // index no call gives yet.
-#[derive(Clone, Copy)]
+#[derive(Clone, Copy, Debug, PartialEq, Eq)]
 pub enum Width {
-    Bits48,
-    Bits57,
+    Bits48 = 48,
+    Bits57 = 57,
+}
+
+// The virtual addresses of the width: the canonical numbers.
+impl Addresses for Width {
+    ghost space = { λ w. virt (width_of w) };
+
+    ghost numbered = { λ w. virt-argument (width_of w) };
+
+    fn argument(self, addr: u64) -> Result<u64, Refusal> {
+        if self.is_canonical(addr) {
+            Ok(addr)
+        } else {
+            Err(Refusal::NotCanonical)
+        }
+    }
+
+    fn outcome(self, addr: u64) -> Result<u64, Refusal> {
+        if self.is_canonical(addr) {
+            Ok(addr)
+        } else {
+            Err(Refusal::ResultNotCanonical)
+        }
+    }
 }
 
 impl Width {
@@ -17,10 +45,7 @@ impl Width {
     pub fn size(self) -> u64
         ensures { result ≡ 2 ^ width_of self }
     {
-        match self {
-            Width::Bits48 => 0x1_0000_0000_0000,
-            Width::Bits57 => 0x200_0000_0000_0000,
-        }
+        1 << self as u32
     }
 
     // How many addresses each half has: the first number above the low half.
@@ -45,6 +70,7 @@ impl Width {
     }
 
     // The number with the width's top bit copied upward.
+    #[tactic(auto, using(crate::proofs::Widths::widths, laws::proofs::Width::sizes, laws::proofs::Width::sign_clear, laws::proofs::Width::sign_set))]
     pub fn truncate(self, addr: u64) -> u64
         ensures { result ≡ sign_extend (width_of self) addr }
     {
@@ -58,12 +84,10 @@ impl Width {
     }
 
     // Whether the number is in one of the halves, and not in the gap between them.
+    #[tactic(auto, using(crate::proofs::Widths::low_canonical, crate::proofs::Widths::high_canonical))]
     pub fn is_canonical(self, addr: u64) -> bool
         ensures { result ≡ canonical (width_of self) addr }
     {
-        if addr < self.half() {
-            return true;
-        }
-        self.first_high() <= addr
+        addr < self.half() || self.first_high() <= addr
     }
 }

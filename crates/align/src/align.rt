@@ -3,7 +3,7 @@ ghost use Rattle.std.specs.Prelude.{◌≡◌, true, ◌+◌, ◌%◌};
 ghost use Rattle.answer.specs.Answers.{u64_of, bool_of};
 ghost use Rattle.laws.specs.Align.{power_of_two, up, align_down, align_up, multiple_of};
 
-use answer::{BoolAnswer, NOT_POWER_OF_TWO, OVERFLOW, U64Answer};
+use answer::Refusal;
 
 // Whether just one bit of the alignment is set.
 fn is_power_of_two(align: u64) -> bool
@@ -30,36 +30,33 @@ fn padding(addr: u64, align: u64) -> u64
 }
 
 // The greatest multiple of the alignment that is not above addr; 4 if it is no power of two.
-pub fn align_down(addr: u64, align: u64) -> U64Answer
+pub fn align_down(addr: u64, align: u64) -> Result<u64, Refusal>
     ensures { u64_of result ≡ align_down addr align }
 {
     if !is_power_of_two(align) {
-        return U64Answer::Refused(NOT_POWER_OF_TWO);
+        return Err(Refusal::NotPowerOfTwo);
     }
-    U64Answer::Value(addr - rest(addr, align))
+    Ok(addr - rest(addr, align))
 }
 
 // The least multiple of the alignment that is not below addr; 4 if it is no power of two, 5 if the
 // multiple is 2^64.
-pub fn align_up(addr: u64, align: u64) -> U64Answer
+pub fn align_up(addr: u64, align: u64) -> Result<u64, Refusal>
     ensures { u64_of result ≡ align_up addr align }
 {
     if !is_power_of_two(align) {
-        return U64Answer::Refused(NOT_POWER_OF_TWO);
+        return Err(Refusal::NotPowerOfTwo);
     }
-    let more = padding(addr, align);
-    if u64::MAX - addr < more {
-        return U64Answer::Refused(OVERFLOW);
-    }
-    U64Answer::Value(addr + more)
+    addr.checked_add(padding(addr, align))
+        .ok_or(Refusal::Overflow)
 }
 
 // Whether addr is a multiple of the alignment; 4 if that is no power of two.
-pub fn is_aligned(addr: u64, align: u64) -> BoolAnswer
+pub fn is_aligned(addr: u64, align: u64) -> Result<bool, Refusal>
     ensures { bool_of result ≡ multiple_of addr align }
 {
     if !is_power_of_two(align) {
-        return BoolAnswer::Refused(NOT_POWER_OF_TWO);
+        return Err(Refusal::NotPowerOfTwo);
     }
-    BoolAnswer::Value(rest(addr, align) == 0)
+    Ok(rest(addr, align) == 0)
 }

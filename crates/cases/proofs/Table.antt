@@ -11,14 +11,13 @@ use Rattle.laws.specs.Run.{run, len_below, len_through, pages_below, pages_throu
 use Rattle.laws.specs.Draw.{gap_front_below, gap_front_through, gap_back_below, gap_back_through}
 use Rattle.laws.proofs.Align.{one_bit}
 use Rattle.laws.specs.Item.{item_refusal, items_refusal}
-use Rattle.page.specs.Range.{page_answer, nth_of, nth_back_of, nth_inclusive_of, nth_back_inclusive_of}
 use Rattle.cases.specs.Table.{Table}
 
 power : (k : ℕ) → power_of_two (2 ^ k) ≡ true
 power k = eq-eqb (ones (2 ^ k)) 1 ((one_bit (2 ^ k)).1 (k, refl))
 
 pub table : Table
-unfolding sign_extend forward steps up run len_below len_through pages_below pages_through gap_front_below gap_front_through gap_back_below gap_back_through item_refusal items_refusal page_answer nth_of nth_back_of nth_inclusive_of nth_back_inclusive_of
+unfolding sign_extend forward steps up run len_below len_through pages_below pages_through gap_front_below gap_front_through gap_back_below gap_back_through item_refusal items_refusal
 table =
     record {
       a = refl;

@@ -8,20 +8,20 @@ use Rattle.table.specs.declared.size.PageSize.TheVariants.{Size4KiB}
 use Rattle.laws.specs.Item.{item}
 use Rattle.laws.specs.Range.{count_below, count_through}
 use Rattle.frame.specs.Frame.{pfn_of, from_pfn}
-use Rattle.page.specs.Range.{page_at, nth_of, nth_back_of, nth_inclusive_of, nth_back_inclusive_of}
-use Rattle.page.specs.declared.page.Page as code
-use Rattle.page.specs.declared.page.PageAnswer.TheVariants.{Page, Refused}
-use Rattle.page.specs.declared.range.PageRange.{PageRange}
-use Rattle.page.specs.declared.range_inclusive.PageRangeInclusive.{PageRangeInclusive}
+use Rattle.page.specs.Page.{page_at}
+use Rattle.page.specs.Range.{nth_of, nth_back_of, nth_inclusive_of, nth_back_inclusive_of}
+use Rattle.page.specs.declared.page.Page.{Page}
+use Rattle.range.specs.declared.range.Range.{Range}
+use Rattle.range.specs.declared.range_inclusive.RangeInclusive.{RangeInclusive}
 
 -- a 4 KiB page, and ranges of them
-abbrev pub page : ℕ → code.Page
+abbrev pub page : ℕ → Page
 page a = page_at Size4KiB a
 
-abbrev pub exclusive : ℕ → ℕ → PageRange
+abbrev pub exclusive : ℕ → ℕ → Range Page
 exclusive a b = record { start = page a; end = page b }
 
-abbrev pub inclusive : ℕ → ℕ → PageRangeInclusive
+abbrev pub inclusive : ℕ → ℕ → RangeInclusive Page
 inclusive a b = record { start = page a; end = page b }
 
 pub record Table : Type 0 where
@@ -54,21 +54,21 @@ pub record Table : Type 0 where
   pub edge-past : from_pfn (2 ^ 40) 0x1000 ≡ refuses 12
   -- H inclusive, both ffff_ffff_ffff_f000: front gives it, end is ffff_ffff_ffff_e000
   pub h : nth_inclusive_of 48 (inclusive 0xffff_ffff_ffff_f000 0xffff_ffff_ffff_f000) 0
-      ≡ record { answer = Page (page 0xffff_ffff_ffff_f000); range = inclusive 0xffff_ffff_ffff_f000 0xffff_ffff_ffff_e000 }
+      ≡ record { answer = gives (item 0xffff_ffff_ffff_f000 0x1000); range = inclusive 0xffff_ffff_ffff_f000 0xffff_ffff_ffff_e000 }
   -- I inclusive, both 0: back gives 0, start is 1000
-  pub i : nth_back_inclusive_of 48 (inclusive 0 0) 0 ≡ record { answer = Page (page 0); range = inclusive 0x1000 0 }
+  pub i : nth_back_inclusive_of 48 (inclusive 0 0) 0 ≡ record { answer = gives (item 0 0x1000); range = inclusive 0x1000 0 }
   -- J inclusive, both 7fff_ffff_f000: `len` 1, front refusal 10
   pub j-len : count_through (virt 48) 0x7fff_ffff_f000 0x1000 0x7fff_ffff_f000 0x1000 ≡ gives 1
   pub j-front : nth_inclusive_of 48 (inclusive 0x7fff_ffff_f000 0x7fff_ffff_f000) 0
-      ≡ record { answer = Refused 10; range = inclusive 0x7fff_ffff_f000 0x7fff_ffff_f000 }
+      ≡ record { answer = refuses 10; range = inclusive 0x7fff_ffff_f000 0x7fff_ffff_f000 }
   -- K exclusive 7fff_ffff_e000 to ffff_8000_0000_1000: `len` f_fff0_0000_0003; nth(0) 7fff_ffff_e000, nth(1) refusal 10; nth_back(0) ffff_8000_0000_0000,
   -- nth_back(1) refusal 10
   pub k-len : count_below (virt 48) 0x7fff_ffff_e000 0x1000 0xffff_8000_0000_1000 0x1000 ≡ gives 0xf_fff0_0000_0003
   pub k-nth-0 : nth_of 48 (exclusive 0x7fff_ffff_e000 0xffff_8000_0000_1000) 0
-      ≡ record { answer = Page (page 0x7fff_ffff_e000); range = exclusive 0x7fff_ffff_f000 0xffff_8000_0000_1000 }
+      ≡ record { answer = gives (item 0x7fff_ffff_e000 0x1000); range = exclusive 0x7fff_ffff_f000 0xffff_8000_0000_1000 }
   pub k-nth-1 : nth_of 48 (exclusive 0x7fff_ffff_e000 0xffff_8000_0000_1000) 1
-      ≡ record { answer = Refused 10; range = exclusive 0x7fff_ffff_e000 0xffff_8000_0000_1000 }
+      ≡ record { answer = refuses 10; range = exclusive 0x7fff_ffff_e000 0xffff_8000_0000_1000 }
   pub k-back-0 : nth_back_of 48 (exclusive 0x7fff_ffff_e000 0xffff_8000_0000_1000) 0
-      ≡ record { answer = Page (page 0xffff_8000_0000_0000); range = exclusive 0x7fff_ffff_e000 0xffff_8000_0000_0000 }
+      ≡ record { answer = gives (item 0xffff_8000_0000_0000 0x1000); range = exclusive 0x7fff_ffff_e000 0xffff_8000_0000_0000 }
   pub k-back-1 : nth_back_of 48 (exclusive 0x7fff_ffff_e000 0xffff_8000_0000_1000) 1
-      ≡ record { answer = Refused 10; range = exclusive 0x7fff_ffff_e000 0xffff_8000_0000_1000 }
+      ≡ record { answer = refuses 10; range = exclusive 0x7fff_ffff_e000 0xffff_8000_0000_1000 }

@@ -8,10 +8,7 @@ use native.Mathlib.Decide.{dec_lt, ℕ_discrete}
 use borrow.Author.Tests.{lt-ltb, le-ltb, ne_eqb}
 use Rattle.answer.specs.Outcome.{Outcome, gives, none, refuses, unless, only_if}
 use Rattle.laws.proofs.Cases.{by_cases}
-use Rattle.table.specs.Answers.{level_answer_of}
 use Rattle.table.specs.Level.{level_of, bytes_of}
-use Rattle.table.specs.declared.level.LevelAnswer.{LevelAnswer}
-use Rattle.table.specs.declared.level.LevelAnswer.TheVariants as level
 use Rattle.table.specs.declared.level.PageTableLevel.{PageTableLevel}
 use Rattle.status.specs.Status.{no_such_choice}
 use Rattle.status.specs.Convention.{left, leaves}
@@ -25,14 +22,6 @@ some_holds false x y e = let z : ◌≡◌ {A = ℕ} 0 1 = cc in absurd (omega a
 pub none-fails : {A : Type 0} (t : Bool) (y : A) → none ≡ only_if t y → t ≡ false
 none-fails true y e = let z : ◌≡◌ {A = ℕ} 0 1 = cc in absurd (omega arith)
 none-fails false y e = refl
-
--- what is made of a chosen value answers the same test
-module _ {A B : Type 0} (t : Bool) where
-  pub some-made : (f : A → B) (x y : A) → gives x ≡ only_if t y → gives (f x) ≡ only_if t (f y)
-  some-made f x y e = let p = some_holds t x y e in simp (p.0, p.1)
-
-  pub none_made : (x : A) (y : B) → none ≡ only_if t x → none ≡ only_if t y
-  none_made x y e = simp (none-fails t x e)
 
 -- no level, no size
 pub not-level : (n : ℕ) → (n ≡ 1 → ⊥) → (n ≡ 2 → ⊥) → (n ≡ 3 → ⊥) → (n ≡ 4 → ⊥) → is_level n ≡ false
@@ -53,12 +42,11 @@ bytes-with z h =
     let n = not-size z a b c in let f : ◌≡◌ {A = ℕ} 0 1 = cc in absurd (omega arith))))
 
 -- the level that was chosen has the number asked for; where none was, the number is no choice
-module _ (n : ℕ) (r : LevelAnswer) (e : level_answer_of r ≡ only_if (is_level n) n) where
-  pub level-chosen : (l : PageTableLevel) → r ≡ level.Level l → (is_level n ≡ true) × (level_of l ≡ n)
-  level-chosen l h = some_holds (is_level n) (level_of l) n (rw h at e)
+pub level-chosen : (n : ℕ) (l : PageTableLevel) → gives (level_of l) ≡ only_if (is_level n) n → (is_level n ≡ true) × (level_of l ≡ n)
+level-chosen n l e = some_holds (is_level n) (level_of l) n e
 
-  pub level-missing : r ≡ level.None → is_level n ≡ false
-  level-missing h = none-fails (is_level n) n (rw h at e)
+pub level-missing : (n : ℕ) → none ≡ only_if (is_level n) n → is_level n ≡ false
+level-missing n e = none-fails (is_level n) n e
 
 -- what was read with a size, `p`, is what it should be, `x`, and the number of bytes is the size's
 pub record OfSize {A : Type 0} (z : ℕ) (p x : A) : Type 0 where
@@ -97,3 +85,10 @@ module _ {A : Type 0} (y z : ℕ) (x : A) where
   pub sizes-missing : none ≡ only_if (are_sizes y z) x → (o : Outcome (List ℕ)) (out : List ℕ) → left no_such_choice out ≡ leaves (of_size y (of_size z o)) out
   unfolding leaves
   sizes-missing e o out = rw (one-fails no_such_choice (is_size y) (is_size z) x o e)
+
+-- what the choices say, as the proofs of the calls cite it
+pub ruleset levels = (level-chosen, level-missing)
+
+pub ruleset sizes = (size-chosen, size-missing)
+
+pub ruleset pairs_of_sizes = (sizes-chosen, sizes-missing)

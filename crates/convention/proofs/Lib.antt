@@ -1,4 +1,2 @@
-pub mod Truth
 pub mod Choice
-pub mod Bounded
 pub mod ListCalls

@@ -8,31 +8,22 @@ use walk::{TABLE_WORDS, within_span};
 fn has_byte(bytes: &[u8], place: usize) -> bool
     ensures { result ≡ has_byte bytes.now place }
 {
-    if place % TABLE_WORDS == 0 {
-        return place / TABLE_WORDS < bytes.len();
-    }
-    false
+    place % TABLE_WORDS == 0 && place / TABLE_WORDS < bytes.len()
 }
 
 // Whether the table at a place is known to hold nothing as one of level below + 1.
 pub fn is_empty(bytes: &[u8], place: usize, below: u64) -> bool
     ensures { result ≡ marked bytes.now place below }
 {
-    let has = has_byte(bytes, place);
-    if has {
-        return (bytes[place / TABLE_WORDS] as u64 >> (below % 8)) & 1 == 1;
-    }
-    false
+    has_byte(bytes, place) && (bytes[place / TABLE_WORDS] >> (below % 8)) & 1 == 1
 }
 
 // Remembers that it holds nothing.
 fn remember(bytes: &mut [u8], place: usize, below: u64)
     ensures { bytes.new ≡ marking bytes.old place below }
 {
-    let has = has_byte(&bytes[0..bytes.len()], place);
-    if has {
-        let i = place / TABLE_WORDS;
-        bytes[i] = (bytes[i] as u64 | (1 << (below % 8))) as u8;
+    if has_byte(bytes, place) {
+        bytes[place / TABLE_WORDS] |= 1 << (below % 8);
     }
 }
 
@@ -40,20 +31,18 @@ fn remember(bytes: &mut [u8], place: usize, below: u64)
 pub fn remember_whole(bytes: &mut [u8], nothing: bool, place: usize, below: u64, from: u64)
     ensures { bytes.new ≡ marking_whole bytes.old nothing place below from }
 {
-    if nothing {
-        if within_span(from, below % 8 + 1) == 0 {
-            remember(bytes, place, below);
-        }
+    if nothing && within_span(from, below % 8 + 1) == 0 {
+        remember(bytes, place, below);
     }
 }
 
-// Forgets what the bytes have. A byte is written only if it is not zero, so that the compiler makes no call of memset of the loop: the library calls nothing.
+// Forgets what the bytes have. A byte is written only if it is not zero: of a plain loop, and of `fill`, the compiler makes a call of memset, and the library calls nothing.
 pub fn forget(bytes: &mut [u8])
     ensures { bytes.new ≡ replicate (length bytes.old) 0 }
 {
-    for i in 0..bytes.len() {
-        if bytes[i] != 0 {
-            bytes[i] = 0;
+    for byte in bytes.iter_mut() {
+        if *byte != 0 {
+            *byte = 0;
         }
     }
 }

@@ -1,24 +1,29 @@
-// Answers of the search, by the numbers of pages and frames.
+// Answers of the search.
 ghost use Rattle.std.specs.Prelude.{◌≡◌};
-ghost use Rattle.found.specs.Found.{end_of_half, found_from};
+ghost use Rattle.found.specs.Found.{answer_in, answer_of, end_of_half};
+ghost use Rattle.found.specs.Progress.{progress_of};
 
-// The kinds of answers: nothing follows, a run, a stop at an entry with a reserved bit set, a stop at one whose table is not in the image.
-pub const END: u64 = 0;
+use crate::progress::{Progress, StopReason};
+use walk::Rights;
 
-pub const RUN: u64 = 1;
-
-pub const RESERVED: u64 = 2;
-
-pub const OUTSIDE: u64 = 3;
-
-// An answer: its kind, its page, the first frame of a run or the level of a stop, a run's count, and its rights as three bits.
-#[derive(Clone, Copy)]
-pub struct Found {
-    pub kind: u64,
-    pub page: u64,
-    pub place: u64,
-    pub count: u64,
-    pub rights: u64,
+// An answer by the numbers of its pages and frames.
+#[derive(Clone, Copy, Debug, PartialEq, Eq)]
+pub enum Found {
+    // No page from there on is mapped or broken.
+    End,
+    // So many pages, mapped from the frame on.
+    Run {
+        page: u64,
+        frame: u64,
+        count: u64,
+        rights: Rights,
+    },
+    // The first page that is broken, the level of the entry that breaks it, and why.
+    Stop {
+        page: u64,
+        level: u64,
+        reason: StopReason,
+    },
 }
 
 // The page after the half that a page is in, of so many pages.
@@ -29,28 +34,32 @@ fn half_end(page: u64, pages: u64) -> u64
     if page < half { half } else { pages }
 }
 
-// What is found by a search that has come to a page, of so many pages: a run ends with its half. The first four numbers are what it has found on its way: a kind, a page,
-// its frame or a level, and rights.
-pub fn found_of(kind: u64, page: u64, place: u64, rights: u64, reached: u64, pages: u64) -> Found
-    ensures { result ≡ found_from kind page place rights reached pages }
-{
-    if kind == RUN {
-        let half = half_end(page, pages);
-        let last = if reached < half { reached } else { half };
-        let count = if last < page { 0 } else { last - page };
-        return Found {
-            kind,
-            page,
-            place,
-            count,
-            rights,
-        };
-    }
-    Found {
-        kind,
-        page,
-        place,
-        count: 0,
-        rights: 0,
+impl Progress {
+    // What is found by a search that has come to a page, of so many pages: a run ends with its half.
+    pub fn found(self, reached: u64, pages: u64) -> Found
+        ensures { answer_of result ≡ answer_in pages (progress_of self) reached }
+    {
+        match self {
+            Progress::Unfound => Found::End,
+            Progress::Running {
+                page,
+                frame,
+                rights,
+            } => Found::Run {
+                page,
+                frame,
+                count: reached.min(half_end(page, pages)).saturating_sub(page),
+                rights,
+            },
+            Progress::Stopped {
+                page,
+                level,
+                reason,
+            } => Found::Stop {
+                page,
+                level,
+                reason,
+            },
+        }
     }
 }

@@ -1,6 +1,8 @@
-// An answer of the search for mapped runs by the numbers of pages and frames, made of what the search has found on its way.
+// What a search for mapped runs has found on its way, and the answer that is made of it, by the numbers of pages and frames.
 #![tactic(auto)]
 
 mod found;
+mod progress;
 
-pub use found::{END, Found, OUTSIDE, RESERVED, RUN, found_of};
+pub use found::Found;
+pub use progress::{Progress, StopReason};

@@ -3,7 +3,7 @@ use Prim.Native.Nat.{ℕ, zero, suc, ◌%◌, ◌^◌, ◌≤◌, ◌<◌}
 use mathlib.Core.Path.{◌≡◌, refl}
 use mathlib.Core.Bool.{Bool, false}
 use mathlib.Core.List.{reverse}
-use mathlib.Core.Option.{Option, none, some}
+use mathlib.Core.Option.{some}
 use native.Mathlib.Omega.{arith}
 use borrow.Author.Tests.{lt-ltb, eq-eqb}
 use lib.ListN.{get_elem?, drop}
@@ -14,29 +14,20 @@ use Rattle.laws.proofs.Run.{below_none, through-none}
 use Rattle.laws.proofs.After.{Stepwise, front-below-steps, back-below-steps, front-through-steps, back-through-steps}
 use Rattle.laws.proofs.Kept.{Multiples, front-below-multiples, back-below-multiples, front-through-multiples, back-through-multiples}
 use Rattle.laws.proofs.Align.{top-whole}
-use Rattle.laws.proofs.Kind.{Reads}
 use Rattle.laws.proofs.Ranges.{Items, Ends, Facts, drawn_at, settled}
 use Rattle.laws.proofs.Left.{front-below-left, back-below-left, front-through-left, back-through-left}
 use Rattle.laws.proofs.Drawing.{each-once}
 use Rattle.laws.proofs.OneByOne.{Settled, settled as settled_is, one_by_one}
+use Rattle.laws.specs.Item.{first_refusal, item_refusal, items_refusal}
 use Rattle.table.specs.Level.{power_of}
 use Rattle.table.proofs.Sizes.{bounds}
-use Rattle.table.specs.declared.size.PageSize.{PageSize}
-use Rattle.laws.specs.Item.{first_refusal, item_refusal, items_refusal}
-use Rattle.frame.specs.Frame.{start, bytes}
-use Rattle.frame.specs.Range.{frame_at, frame_answer, top_frame, item_in, refusal, leaves_memory, frames, drawn_below, drawn_through, nth_of, nth_back_of, nth_inclusive_of, nth_back_inclusive_of, frames_of, frames_inclusive_of, IsAccepted, IsAcceptedInclusive, IsEmpty, IsEmptyInclusive, len, len_inclusive, nth_from, nth_inclusive_from, next_from, next_inclusive_from}
+use Rattle.range.specs.Ranges.{made, made_inclusive}
+use Rattle.range.specs.declared.range.Range.{Range}
+use Rattle.range.specs.declared.range_inclusive.RangeInclusive.{RangeInclusive}
+use Rattle.frame.specs.Frame.{start, bytes, frame_at}
+use Rattle.frame.specs.Range.{top_frame, refusal, leaves_memory, frames, nth_below, nth_back_below, nth_through, nth_back_through, frames_of, frames_inclusive_of, IsAccepted, IsAcceptedInclusive, IsEmpty, IsEmptyInclusive, len, len_inclusive, nth_from, nth_inclusive_from, next_from, next_inclusive_from}
 use Rattle.frame.specs.declared.frame.PhysFrame.{PhysFrame}
-use Rattle.frame.specs.declared.range.PhysFrameRange.{PhysFrameRange}
-use Rattle.frame.specs.declared.range_inclusive.PhysFrameRangeInclusive.{PhysFrameRangeInclusive}
 use Rattle.frame.proofs.Ranges as ranges
-
-answer-gives : (z : PageSize) (i : Option ℕ) → item_in (frame_answer z i) ≡ some i
-unfolding frame_answer
-answer-gives z none = refl
-answer-gives z (some a) = refl
-
-reads : Reads frames
-reads = record { of-answer = λ x i. answer-gives x.size i; of-refusal = λ m. refl }
 
 first-passed : (k m : ℕ) → first_refusal k m ≡ 0 → k ≡ 0
 first-passed zero m h = refl
@@ -47,7 +38,7 @@ accepted-left : (x y : PhysFrame) (under : Bool) (d : draw.Draw) → refusal x y
     → refusal (frame_at x.size d.start) (frame_at y.size d.end) ≡ 0
 unfolding items_refusal item_refusal
 accepted-left x y under d e i m =
-    let k = ranges.accepted x y e in
+    let k = ranges.accepted_frames x y e in
     simp (
       lt-ltb d.start (2 ^ 52) i.start,
       lt-ltb d.end (2 ^ 52) i.end,
@@ -56,8 +47,8 @@ accepted-left x y under d e i m =
       eq-eqb (bytes x) (bytes y) k.same,
     )
 
-items : Items frames start bytes
-items = record { reads = reads; start_of = λ x a. refl; bytes_of = λ x a. refl; again = λ x a b. refl; same = λ x. refl }
+items : Items frames
+items = record { start_of = λ x a. refl; bytes_of = λ x a. refl; again = λ x a b. refl; same = λ x. refl }
 
 -- the draws on numbers, by the size
 abbrev on_front : ℕ → ℕ → ℕ → ℕ → draw.Draw
@@ -78,7 +69,7 @@ number under on n x y = first_refusal (refusal x y) (leaves_memory (under (bytes
 
 abbrev FrameFacts : (PhysFrame → PhysFrame → Type 0) → (ℕ → ℕ → ℕ → ℕ) → (ℕ → ℕ → ℕ → ℕ → Bool) → (ℕ → ℕ → ℕ → ℕ → draw.Draw) → Type 0
 FrameFacts Empty len under on =
-    Facts frames start bytes (λ x. top_frame (bytes x)) len (λ x y. refusal x y ≡ 0) Empty (λ n x y. refusal x y ≡ 0) (number under on) (λ n x y. on (bytes x) (start x) (start y) n) on
+    Facts frames (λ x. top_frame (bytes x)) len (λ x y. refusal x y ≡ 0) Empty (λ n x y. refusal x y ≡ 0) (number under on) (λ n x y. on (bytes x) (start x) (start y) n) on
 
 top_multiple : (x : PhysFrame) → top_frame (bytes x) % bytes x ≡ 0
 top_multiple x = top-whole (power_of x.size) 52 (omega (arith, bounds x.size))
@@ -91,15 +82,15 @@ module _ (Empty : PhysFrame → PhysFrame → Type 0) (len : ℕ → ℕ → ℕ
   facts : FrameFacts Empty len under on
   facts =
       record {
-        no_number = λ n x y g. ranges.no_number x y (under (bytes x) (start x) (start y) n) (on (bytes x) (start x) (start y) n) g (inside x y n g);
+        no_number = λ n x y g. ranges.no_number (start x) x.size (start y) y.size (under (bytes x) (start x) (start y) n) (on (bytes x) (start x) (start y) n) g (inside x y n g);
         free = λ n x y h. first-passed (refusal x y) (leaves_memory (under (bytes x) (start x) (start y) n) (on (bytes x) (start x) (start y) n)) h;
         given = λ n x y g. g;
         by-numbers = λ n x y g. refl;
-        steps = λ x y g. let a = ranges.accepted x y g in steps (bytes x) a.some (omega arith);
-        start-within = λ x y g. let a = ranges.accepted x y g in omega arith;
-        end-within = λ x y g. let a = ranges.accepted x y g in omega arith;
+        steps = λ x y g. let a = ranges.accepted_frames x y g in steps (bytes x) a.some (omega arith);
+        start-within = λ x y g. let a = ranges.accepted_frames x y g in omega arith;
+        end-within = λ x y g. let a = ranges.accepted_frames x y g in omega arith;
         after = λ n x y g h. g;
-        before = λ n x y g. let a = ranges.accepted x y g in
+        before = λ n x y g. let a = ranges.accepted_frames x y g in
             (g, accepted-left x y (under (bytes x) (start x) (start y) 0) (on (bytes x) (start x) (start y) 0) g (inside x y 0 g) (multiples (bytes x) (start x) (start y) a.whole a.last-whole (top_multiple x)));
         empty-len = empty-len;
         empty-free = λ n x y g h. g;
@@ -123,50 +114,44 @@ over z a b n = false
 
 front-facts : FrameFacts EmptyBelow len_below over on_front
 front-facts =
-    facts EmptyBelow len_below over on_front (λ z p q. front-below-steps z (top_frame z) p q) ranges.front-inside (λ z a b u v t. front-below-multiples (below a b z) a b z 0 u v) none_below
+    facts EmptyBelow len_below over on_front (λ z p q. front-below-steps z (top_frame z) p q) (λ x y. ranges.front-inside (start x) x.size (start y) y.size) (λ z a b u v t. front-below-multiples (below a b z) a b z 0 u v) none_below
 
 back-facts : FrameFacts EmptyBelow len_below (λ z a b n. draw.under_back_below a b z n) on_back
 back-facts =
-    facts EmptyBelow len_below (λ z a b n. draw.under_back_below a b z n) on_back (λ z p q. back-below-steps z (top_frame z) p q) ranges.back_inside (λ z a b u v t. back-below-multiples (below a b z) a b z 0 u v) none_below
+    facts EmptyBelow len_below (λ z a b n. draw.under_back_below a b z n) on_back (λ z p q. back-below-steps z (top_frame z) p q) (λ x y. ranges.back_inside (start x) x.size (start y) y.size) (λ z a b u v t. back-below-multiples (below a b z) a b z 0 u v) none_below
 
 front-inclusive-facts : FrameFacts EmptyThrough len_through (λ z a b n. draw.under_front_through (top_frame z) a b z n) on_front_inclusive
 front-inclusive-facts =
-    facts EmptyThrough len_through (λ z a b n. draw.under_front_through (top_frame z) a b z n) on_front_inclusive (λ z p q. front-through-steps z (top_frame z) p q) ranges.front-inclusive-inside
+    facts EmptyThrough len_through (λ z a b n. draw.under_front_through (top_frame z) a b z n) on_front_inclusive (λ z p q. front-through-steps z (top_frame z) p q) (λ x y. ranges.front-inclusive-inside (start x) x.size (start y) y.size)
     (λ z a b u v t. front-through-multiples (through a b z) a b z 0 u v (top_frame z) t) none-through
 
 back-inclusive-facts : FrameFacts EmptyThrough len_through over on_back_inclusive
 back-inclusive-facts =
-    facts EmptyThrough len_through over on_back_inclusive (λ z p q. back-through-steps z (top_frame z) p q) ranges.back-inclusive-inside (λ z a b u v t. back-through-multiples (through a b z) a b z 0 u v) none-through
+    facts EmptyThrough len_through over on_back_inclusive (λ z p q. back-through-steps z (top_frame z) p q) (λ x y. ranges.back-inclusive-inside (start x) x.size (start y) y.size) (λ z a b u v t. back-through-multiples (through a b z) a b z 0 u v) none-through
 
 -- ranges by their ends
-abbrev range : PhysFrame → PhysFrame → PhysFrameRange
-range x y = record { start = x; end = y }
+ends : Ends {P = PhysFrame} made (λ r. r.start) (λ r. r.end)
+ends = record { first_of = λ x y. refl; last_of = λ x y. refl; ends_of = λ r. refl }
 
-abbrev range_inclusive : PhysFrame → PhysFrame → PhysFrameRangeInclusive
-range_inclusive x y = record { start = x; end = y }
-
-ends : Ends drawn_below (λ d. d.answer) (λ d. d.range) range (λ r. r.start) (λ r. r.end)
-ends = record { made_of = λ a x y. (refl, refl); first_of = λ x y. refl; last_of = λ x y. refl; ends_of = λ r. refl }
-
-ends_inclusive : Ends drawn_through (λ d. d.answer) (λ d. d.range) range_inclusive (λ r. r.start) (λ r. r.end)
-ends_inclusive = record { made_of = λ a x y. (refl, refl); first_of = λ x y. refl; last_of = λ x y. refl; ends_of = λ r. refl }
+ends_inclusive : Ends {P = PhysFrame} made_inclusive (λ r. r.start) (λ r. r.end)
+ends_inclusive = record { first_of = λ x y. refl; last_of = λ x y. refl; ends_of = λ r. refl }
 
 -- what each draw gives and leaves
-abbrev out : Side → ℕ → PhysFrameRange → Drawn PhysFrameRange
-out front n r = drawn_at frames range r.start r.end (ranges.front r.start r.end n)
-out back n r = drawn_at frames range r.start r.end (ranges.back r.start r.end n)
+abbrev out : Side → ℕ → Range PhysFrame → Drawn (Range PhysFrame)
+out front n r = drawn_at frames made r.start r.end (ranges.front (start r.start) r.start.size (start r.end) r.end.size n)
+out back n r = drawn_at frames made r.start r.end (ranges.back (start r.start) r.start.size (start r.end) r.end.size n)
 
-abbrev out_inclusive : Side → ℕ → PhysFrameRangeInclusive → Drawn PhysFrameRangeInclusive
-out_inclusive front n r = drawn_at frames range_inclusive r.start r.end (ranges.front_inclusive r.start r.end n)
-out_inclusive back n r = drawn_at frames range_inclusive r.start r.end (ranges.back_inclusive r.start r.end n)
+abbrev out_inclusive : Side → ℕ → RangeInclusive PhysFrame → Drawn (RangeInclusive PhysFrame)
+out_inclusive front n r = drawn_at frames made_inclusive r.start r.end (ranges.front_inclusive (start r.start) r.start.size (start r.end) r.end.size n)
+out_inclusive back n r = drawn_at frames made_inclusive r.start r.end (ranges.back_inclusive (start r.start) r.start.size (start r.end) r.end.size n)
 
 given-range : (side : Side) → Settled IsAccepted IsEmpty len (λ n r. IsAccepted r) (out side) (nth_from side)
-unfolding nth_of nth_back_of
+unfolding nth_below nth_back_below
 given-range front = settled items ends front-facts
 given-range back = settled items ends back-facts
 
 given-inclusive : (side : Side) → Settled IsAcceptedInclusive IsEmptyInclusive len_inclusive (λ n r. IsAcceptedInclusive r) (out_inclusive side) (nth_inclusive_from side)
-unfolding nth_inclusive_of nth_back_inclusive_of
+unfolding nth_through nth_back_through
 given-inclusive front = settled items ends_inclusive front-inclusive-facts
 given-inclusive back = settled items ends_inclusive back-inclusive-facts
 
@@ -178,30 +163,30 @@ pub frames-inclusive-one-by-one : OneByOne IsAcceptedInclusive IsEmptyInclusive 
 frames-inclusive-one-by-one = one_by_one given-inclusive
 
 -- each frame once
-module _ (r : PhysFrameRange) (d : Drawn PhysFrameRange) where
+module _ (r : Range PhysFrame) (d : Drawn (Range PhysFrame)) where
   front-drawn : next_from front r ≡ some d → (d.item ≡ get_elem? (frames_of r) 0) × (frames_of d.range ≡ drop 1 (frames_of r))
   front-drawn h =
       let q = settled_is (given-range front) 0 r d h in
-      let a = ranges.accepted r.start r.end ((given-range front).free 0 r d h) in
+      let a = ranges.accepted_frames r.start r.end ((given-range front).free 0 r d h) in
       rw q (refl, front-below-left (frames_of r) (start r.start) (start r.end) (bytes r.start) 0 a.some)
 
   back-drawn : next_from back r ≡ some d → (d.item ≡ get_elem? (reverse (frames_of r)) 0) × (reverse (frames_of d.range) ≡ drop 1 (reverse (frames_of r)))
   back-drawn h =
       let q = settled_is (given-range back) 0 r d h in
-      let a = ranges.accepted r.start r.end ((given-range back).free 0 r d h) in
+      let a = ranges.accepted_frames r.start r.end ((given-range back).free 0 r d h) in
       rw q (refl, back-below-left (frames_of r) (start r.start) (start r.end) (bytes r.start) 0 a.some)
 
-module _ (r : PhysFrameRangeInclusive) (d : Drawn PhysFrameRangeInclusive) where
+module _ (r : RangeInclusive PhysFrame) (d : Drawn (RangeInclusive PhysFrame)) where
   front-inclusive-drawn : next_inclusive_from front r ≡ some d → (d.item ≡ get_elem? (frames_inclusive_of r) 0) × (frames_inclusive_of d.range ≡ drop 1 (frames_inclusive_of r))
   front-inclusive-drawn h =
       let q = settled_is (given-inclusive front) 0 r d h in
-      let a = ranges.accepted r.start r.end ((given-inclusive front).free 0 r d h) in
+      let a = ranges.accepted_frames r.start r.end ((given-inclusive front).free 0 r d h) in
       rw q (refl, front-through-left (frames_inclusive_of r) (start r.start) (start r.end) (bytes r.start) (top_frame (bytes r.start)) 0 a.some (omega arith) (omega arith) (omega arith))
 
   back-inclusive-drawn : next_inclusive_from back r ≡ some d → (d.item ≡ get_elem? (reverse (frames_inclusive_of r)) 0) × (reverse (frames_inclusive_of d.range) ≡ drop 1 (reverse (frames_inclusive_of r)))
   back-inclusive-drawn h =
       let q = settled_is (given-inclusive back) 0 r d h in
-      let a = ranges.accepted r.start r.end ((given-inclusive back).free 0 r d h) in
+      let a = ranges.accepted_frames r.start r.end ((given-inclusive back).free 0 r d h) in
       rw q (refl, back-through-left (frames_inclusive_of r) (start r.start) (start r.end) (bytes r.start) (top_frame (bytes r.start)) 0 a.some (omega arith) (omega arith) (omega arith))
 
 pub frames-once : EachOnce frames_of next_from

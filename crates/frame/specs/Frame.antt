@@ -1,26 +1,32 @@
 -- What the calls on frames answer, beside what they share with pages. The sentences are those of document 01, "Frames".
-use Rattle.std.specs.Prelude.{ℕ, ◌*◌, ◌/◌, ltb}
-use Rattle.answer.specs.Outcome.{Outcome, gives, none, refuses, unless}
+use Rattle.std.specs.Prelude.{ℕ, ◌*◌, ◌/◌, ltb, Result}
+use Rattle.answer.specs.Outcome.{Outcome, gives, unless}
+use Rattle.answer.specs.Answers.{outcome_of}
 use Rattle.answer.specs.Refusal.{pfn_too_large}
+use Rattle.answer.specs.declared.refusal.Refusal.{Refusal}
 use Rattle.table.specs.Level.{bytes_of}
+use Rattle.table.specs.declared.size.PageSize.{PageSize}
 use Rattle.laws.specs.Address.{phys, phys_size}
 use Rattle.laws.specs.Item.{Item, item, given_item}
-use Rattle.frame.specs.declared.frame.PhysFrame as frame
-use Rattle.frame.specs.declared.frame.FrameAnswer.{FrameAnswer}
-use Rattle.frame.specs.declared.frame.FrameAnswer.TheVariants as answer
+use Rattle.frame.specs.declared.frame.PhysFrame.{PhysFrame}
 
 -- where a frame starts, and its size in bytes
-abbrev pub start : frame.PhysFrame → ℕ
+abbrev pub start : PhysFrame → ℕ
 start f = f.start_address.0
 
-abbrev pub bytes : frame.PhysFrame → ℕ
+abbrev pub bytes : PhysFrame → ℕ
 bytes f = bytes_of f.size
 
--- what each case of an answer stands for
-abbrev pub frame_of : FrameAnswer → Outcome Item
-frame_of (answer.Frame f) = gives (item (start f) (bytes f))
-frame_of answer.None = none
-frame_of (answer.Refused k) = refuses k
+-- a frame as an item, and the frame of a size that starts at a number
+abbrev pub item_of : PhysFrame → Item
+item_of f = item (start f) (bytes f)
+
+abbrev pub frame_at : PageSize → ℕ → PhysFrame
+frame_at z a = record { start_address = record { 0 = a }; size = z }
+
+-- what a result with a frame stands for
+abbrev pub frame_of : Result PhysFrame Refusal → Outcome Item
+frame_of = outcome_of item_of
 
 -- "`try_from_pfn`: 12 exactly if number × size ≥ 2^52"
 abbrev pub from_pfn : ℕ → ℕ → Outcome Item

@@ -1,11 +1,11 @@
 pub mod Founds
-pub mod ListKept
 pub mod ListWords
-pub mod AllPages
-pub mod Taking
 pub mod PagesTurn
-pub mod EntrySteps
-pub mod LowestTurn
+pub mod Under
+pub mod Remembered
 pub mod TableTurn
+pub mod LowestTurn
+pub mod AllPages
 pub mod RootTurn
+pub mod ListKept
 pub mod Rooted

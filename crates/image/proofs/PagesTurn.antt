@@ -1,21 +1,23 @@
 -- A turn of the loop over the pages of a table of level 1: the pages before the word `i` are passed, and this is its page.
 use Prim.Native.Nat.{ℕ, ◌+◌, ◌-◌, ◌/◌, ◌%◌, ◌^◌, ◌≤◌, ◌<◌}
 use mathlib.Core.Path.{◌≡◌, sym, ap, ◌∙◌, subst}
-use mathlib.Core.Bool.{true, false}
+use mathlib.Core.Bool.{Bool, true, false}
 use mathlib.Core.List.{List}
 use mathlib.Core.Option.{Option, none}
 use native.Mathlib.Omega.{arith}
-use lib.Bits.{bit_and}
+use lib.Bits.{bit_and, bit_xor}
 use lib.ListN.{get_or}
-use Rattle.mapping.specs.Pages.{Rights, PageState, mapped}
+use Rattle.mapping.specs.Pages.{Rights, reserved, PageState, mapped}
+use Rattle.mapping.specs.Pass.{Progress}
 use Rattle.mapping.specs.Walk.{joined}
 use Rattle.paging.specs.Entry.{set, rights_of}
-use Rattle.paging.specs.Packed.{rights_bits, rights_over}
+use Rattle.paging.specs.Packed.{rights_over}
 use Rattle.paging.specs.Pages.{pages_by, Alike, PassesPages}
-use Rattle.paging.specs.Progress.{GoesOn, Passes, Takes, Halts}
+use Rattle.paging.specs.Progress.{finds_nothing, GoesOn, Passes, Takes, Halts}
 use Rattle.paging.specs.Span.{after}
-use Rattle.paging.proofs.Passing.{passes_none, passes_on, passes-in, still-goes, passes-absent, ends-absent, passes-mapped, ends-mapped, stops-reserved}
+use Rattle.paging.proofs.Passing.{passes_none, passes_then, passes-in, still-goes, passes-absent, ends-absent, passes-mapped, ends-mapped, stops-broken}
 use Rattle.paging.proofs.ReadBits.{read_mask}
+use Rattle.paging.proofs.RightsBits.{rights-step}
 use Rattle.walk.proofs.Lowest.{page-absent, page-masked, page-mapped, all-absent, all-mapped}
 
 -- the end of the table's pages
@@ -24,92 +26,99 @@ unfolding after
 table-end from = omega arith
 
 -- what holds at the word `i`
-abbrev pub PassedTo : (reserved rights from : ℕ) (table before now : List ℕ) (i : ℕ) → Type 0
-PassedTo reserved rights from table before now i =
-    (from % 512 ≤ i) × (i ≤ 512) × GoesOn now (from - from % 512 + i)
-    × ((memory : ℕ → Option (List ℕ)) → Passes (pages_by reserved memory 1 table (rights_over rights)) from (from - from % 512 + i) before now (from - from % 512 + i))
+pub record PassedTo (reserved rights from : ℕ) (table : List ℕ) (before now : Progress) (i : ℕ) : Type 0 where
+  pub begun : from % 512 ≤ i
+  pub inside : i ≤ 512
+  pub going : GoesOn now (from - from % 512 + i)
+  pub passes : (memory : ℕ → Option (List ℕ)) → Passes (pages_by reserved memory 1 table (rights_over rights)) from (from - from % 512 + i) before now (from - from % 512 + i)
 
-module _ (reserved rights from : ℕ) (table before : List ℕ) where
+pub at-first : {reserved rights from : ℕ} {table : List ℕ} {before : Progress} → GoesOn before from → PassedTo reserved rights from table before before (from % 512)
+at-first {reserved} {rights} {from} {table} {before} g =
+    let e : from ≡ from - from % 512 + from % 512 = omega arith in
+    record {
+      begun = omega arith;
+      inside = omega arith;
+      going = subst (λ (x : ℕ). GoesOn before x) e g;
+      passes = λ memory. subst (λ (x : ℕ). Passes (pages_by reserved memory 1 table (rights_over rights)) from x before before x) e (passes_none g);
+    }
+
+module _ {mask rights from : ℕ} {table : List ℕ} {before now : Progress} {i : ℕ} (turn : PassedTo mask rights from table before now i) where
   abbrev start : ℕ
   start = from - from % 512
 
+  abbrev here : ℕ
+  here = start + i
+
+  abbrev word : ℕ
+  word = get_or table i 0
+
+  abbrev held : Rights
+  held = joined (rights_over rights) (rights_of word)
+
+  -- the page was taken with the rights of its own word
+  abbrev Taken : Progress → Bool → Type 0
+  Taken u b = Takes here (word / 2 ^ 12 % 2 ^ 40) (rights_over (bit_and rights (bit_xor word (2 ^ 63)))) now u b
+
   abbrev pages : (ℕ → Option (List ℕ)) → ℕ → PageState
-  pages memory = pages_by reserved memory 1 table (rights_over rights)
+  pages memory = pages_by mask memory 1 table (rights_over rights)
 
-  aligned : start % 512 ≡ 0
-  aligned = omega arith
-
-  pub at-first : GoesOn before from → PassedTo reserved rights from table before before (from % 512)
-  at-first g =
-      let e : from ≡ start + from % 512 = omega arith in
-      let h : GoesOn before (start + from % 512) = subst (λ (x : ℕ). GoesOn before x) e g in
-      (omega arith, omega arith, h, λ memory. subst (λ (x : ℕ). Passes (pages memory) x (start + from % 512) before before (start + from % 512)) (sym e) (passes_none (pages memory) (start + from % 512) before h))
-
-  pub all-passed : (now : List ℕ) (i : ℕ) → PassedTo reserved rights from table before now i → 512 ≤ i → PassesPages reserved table rights from before now (start + 512)
-  all-passed now i p h memory =
-      let e : i ≡ 512 = omega (arith, p.1) in
+  pub all-passed : 512 ≤ i → PassesPages mask table rights from before now (start + 512)
+  all-passed h memory =
+      let e : i ≡ 512 = omega (arith, turn.inside) in
       subst (λ (n : ℕ). Passes (pages memory) from n before now (start + 512)) (sym (table-end from))
-      (subst (λ (n : ℕ). Passes (pages memory) from (start + n) before now (start + n)) e (p.3 memory))
+      (subst (λ (n : ℕ). Passes (pages memory) from (start + n) before now (start + n)) e (turn.passes memory))
 
-  module _ (now : List ℕ) (i : ℕ) (p : PassedTo reserved rights from table before now i) (below : i < 512) where
-    abbrev here : ℕ
-    here = start + i
-
-    abbrev word : ℕ
-    word = get_or table i 0
-
-    abbrev held : Rights
-    held = joined (rights_over rights) (rights_of word)
+  module _ (below : i < 512) where
+    aligned : start % 512 ≡ 0
+    aligned = omega arith
 
     started : from ≤ here
-    started = omega (arith, p.0)
+    started = omega (arith, turn.begun)
 
     index : here % 512 ≡ i
     index = omega (arith, aligned)
 
     -- it ends here
-    halts : (u : List ℕ) → ((memory : ℕ → Option (List ℕ)) → Passes (pages memory) here (here + 1) now u here) → PassesPages reserved table rights from before u here
-    halts u q memory =
+    halts : {u : Progress} → ((memory : ℕ → Option (List ℕ)) → Passes (pages memory) here (here + 1) now u here) → PassesPages mask table rights from before u here
+    halts {u} q memory =
         subst (λ (e : ℕ). Passes (pages memory) from e before u here) (sym (table-end from))
-        (passes-in (pages memory) from here (here + 1) before now u started (omega arith) (p.3 memory) here (start + 512) (omega arith) (omega arith) (q memory))
+        (passes-in started (omega arith) (omega arith) (omega arith) (turn.passes memory) (q memory))
 
     -- it goes on at the word e
-    again : (u : List ℕ) (e : ℕ) → i < e → e ≤ 512 → ((memory : ℕ → Option (List ℕ)) → Passes (pages memory) here (start + e) now u (start + e)) → PassedTo reserved rights from table before u e
-    again u e h b q = (
-      omega (arith, p.0),
-      b,
-      still-goes (pages (λ a. none)) here (start + e) now u p.2 (q (λ a. none)),
-      λ memory. passes_on (pages memory) from here (start + e) before now u started (omega arith) (p.3 memory) (q memory),
-    )
+    again : {u : Progress} {e : ℕ} → i < e → e ≤ 512 → ((memory : ℕ → Option (List ℕ)) → Passes (pages memory) here (start + e) now u (start + e)) → PassedTo mask rights from table before u e
+    again h b q = record {
+      begun = omega (arith, turn.begun);
+      inside = b;
+      going = still-goes turn.going (q (λ a. none));
+      passes = λ memory. passes_then started (omega arith) (turn.passes memory) (q memory);
+    }
 
-    pub reserved-page : set 0 word ≡ true → (bit_and word reserved ≡ 0 → ⊥) → (u : List ℕ) → Halts 2 here 1 now u → PassesPages reserved table rights from before u here
-    reserved-page s n u k =
-        halts u
-        (λ memory. stops-reserved (pages memory) here (here + 1) now (omega arith) p.2 1 (page-masked reserved memory table (rights_over rights) here i index s n) u k)
+    module _ (present : set 0 word ≡ true) where
+      pub reserved-page : (bit_and word mask ≡ 0 → ⊥) → {u : Progress} → Halts here 1 reserved now u → PassesPages mask table rights from before u here
+      reserved-page n k =
+          halts (λ memory. stops-broken (omega arith) now turn.going (page-masked mask memory table (rights_over rights) here i index present n) k)
 
-    pub other-page : set 0 word ≡ true → bit_and word reserved ≡ 0 → (u : List ℕ) → Takes here (word / 2 ^ 12 % 2 ^ 40) (rights_bits held) now u false → PassesPages reserved table rights from before u here
-    other-page s z u k =
-        halts u (λ memory. ends-mapped (pages memory) here (here + 1) now (omega arith) p.2 (word / 2 ^ 12 % 2 ^ 40) held (λ x a b. one memory x (omega arith)) (omega arith) u k)
-      where
-        one : (memory : ℕ → Option (List ℕ)) (x : ℕ) → x ≡ here → pages memory x ≡ mapped (word / 2 ^ 12 % 2 ^ 40 + (x - here)) held
-        one memory x e =
-            page-mapped reserved memory table (rights_over rights) x i (ap (λ (n : ℕ). n % 512) e ∙ index) s z
-            ∙ ap (λ (n : ℕ). mapped n held) (omega arith)
+      module _ (clear : bit_and word mask ≡ 0) where
+        pub other-page : {u : Progress} → Taken u false → PassesPages mask table rights from before u here
+        other-page k = halts (λ memory. ends-mapped (omega arith) (λ x a b. one memory x (omega arith)) now turn.going (rw (rights-step rights word) at k))
+          where
+            one : (memory : ℕ → Option (List ℕ)) (x : ℕ) → x ≡ here → pages memory x ≡ mapped (word / 2 ^ 12 % 2 ^ 40 + (x - here)) held
+            one memory x e =
+                page-mapped mask memory table (rights_over rights) x i (ap (λ (n : ℕ). n % 512) e ∙ index) present clear
+                ∙ ap (λ (n : ℕ). mapped n held) (omega arith)
 
-    pub mapped-on : set 0 word ≡ true → bit_and word reserved ≡ 0 → (u : List ℕ) → Takes here (word / 2 ^ 12 % 2 ^ 40) (rights_bits held) now u true
-        → (e : ℕ) → Alike table i read_mask 4096 reserved e → PassedTo reserved rights from table before u e
-    mapped-on s z u k e a =
-        again u e a.later a.at_most
-        (λ memory.
-        passes-mapped (pages memory) here (start + e) now (omega (arith, a.later)) p.2 (word / 2 ^ 12 % 2 ^ 40) held
-        (all-mapped reserved memory table (rights_over rights) start i e aligned a s z) (omega arith) u k)
+        pub mapped-on : {u : Progress} → Taken u true → {e : ℕ} → Alike table i read_mask 4096 mask e → PassedTo mask rights from table before u e
+        mapped-on k {e} a =
+            again a.later a.at_most
+            (λ memory.
+            passes-mapped (omega (arith, a.later))
+            (all-mapped mask memory table (rights_over rights) start i e aligned a present clear) now turn.going (omega arith) (rw (rights-step rights word) at k))
 
-    pub run-ends : set 0 word ≡ false → (get_or now 0 0 ≡ 0 → ⊥) → PassesPages reserved table rights from before now here
-    run-ends s n = halts now (λ memory. ends-absent (pages memory) here (here + 1) now (omega arith) p.2 (page-absent reserved memory table (rights_over rights) here i index s) n)
+    module _ (missing : set 0 word ≡ false) where
+      pub run-ends : finds_nothing now ≡ false → PassesPages mask table rights from before now here
+      run-ends n = halts (λ memory. ends-absent (omega arith) now turn.going (page-absent mask memory table (rights_over rights) here i index missing) n)
 
-    pub absent-on : set 0 word ≡ false → get_or now 0 0 ≡ 0 → (e : ℕ) → Alike table i 1 0 0 e → PassedTo reserved rights from table before now e
-    absent-on s z e a =
-        again now e a.later a.at_most
-        (λ memory.
-        passes-absent (pages memory) here (start + e) now (omega (arith, a.later)) p.2
-        (all-absent reserved memory table (rights_over rights) start i e aligned a s) z)
+      pub absent-on : finds_nothing now ≡ true → {e : ℕ} → Alike table i 1 0 0 e → PassedTo mask rights from table before now e
+      absent-on z {e} a =
+          again a.later a.at_most
+          (λ memory. passes-absent (omega (arith, a.later)) now (all-absent mask memory table (rights_over rights) start i e aligned a missing) z)

@@ -1,81 +1,56 @@
 -- The search over all pages below a root: first over the table of level 1 that a page is under, then over the rest.
 use Prim.Native.Nat.{ℕ, ◌-◌, ◌^◌, ◌≤◌, ◌<◌}
-use mathlib.Core.Path.{◌≡◌, ap, ◌∙◌, subst}
+use mathlib.Core.Path.{◌≡◌}
 use mathlib.Core.List.{List}
 use native.Mathlib.Omega.{arith}
 use Rattle.addr.specs.Widths.{levels_of}
 use Rattle.addr.specs.declared.width.Width.{Width}
 use Rattle.mapping.specs.Pages.{PageState}
+use Rattle.mapping.specs.Pass.{Progress}
 use Rattle.mapping.specs.Walk.{span_pages}
-use Rattle.paging.specs.EmptyTables.{TrueIn}
-use Rattle.paging.specs.Memory.{Segment, table_from, table_in}
-use Rattle.paging.specs.Packed.{rights_over}
-use Rattle.paging.specs.Pages.{pages_by}
 use Rattle.paging.specs.Progress.{GoesOn, Passes}
-use Rattle.paging.specs.Search.{pages_from}
 use Rattle.paging.specs.Span.{after}
 use Rattle.paging.proofs.Passing.{passes_none, passes_then, passes-in, passes-congr, passes-le, still-goes}
 use Rattle.paging.proofs.Spanning.{ahead_of}
-use Rattle.image.specs.Tables.{LowestFor, Searched, SearchedAll, SearchedLowest}
-use Rattle.image.specs.declared.lowest.Lowest.{Lowest}
-use Rattle.image.specs.declared.lowest.Lowest.TheVariants as lowest
+use Rattle.image.specs.Tables.{Lent, TrueFor, pages_below, Lowest, Searched, SearchedAll}
+use Rattle.image.specs.declared.tables.Table.{Table}
 use Rattle.image.proofs.AllPages.{all-pages, ends-inside}
 
+-- no page is left
+pub none-left : {w : Lent} {levels root from : ℕ} {before : Progress} {bytes : List ℕ} → from ≡ span_pages levels → GoesOn before from → TrueFor w bytes → SearchedAll w levels root from before before bytes from
+none-left e g known = record { passes = rw (← e) (passes_none g); known = known }
+
 -- the table at the root spans all of the pages
-pub of-table : (mask : ℕ) (segments : List Segment) (words : List ℕ) (levels level root from : ℕ) (before later bytes : List ℕ) (y : ℕ)
-    → level ≡ levels → from < span_pages levels
-    → Searched mask (table_in segments words) words level root (2 ^ 64 - 1) from before later bytes y → SearchedAll mask segments words levels root from before later bytes y
-of-table mask segments words levels level root from before later bytes y e h p =
-    let f : ℕ → ℕ → PageState = λ n. (pages_from mask segments words n root).page in
-    let end : after level from ≡ span_pages levels = ap (λ (n : ℕ). after n from) e ∙ all-pages levels from h in (
-      subst (λ (n : ℕ). Passes (f n) from (span_pages levels) before later y) e (subst (λ (n : ℕ). Passes (f level) from n before later y) end p.0),
-      p.1,
-    )
+pub of-table : {w : Lent} {level levels root from : ℕ} {before later : Progress} {bytes : List ℕ} {r : ℕ} → level ≡ levels → from < span_pages levels
+    → Searched w level (record { place = root; rights = 2 ^ 64 - 1 }) from before later bytes r → SearchedAll w levels root from before later bytes r
+of-table {w} {level} {levels} {root} {from} e h s = record { passes = rw (← all-pages levels from h) (rw e at s.passes); known = s.known }
 
-pub lowest-told : (mask : ℕ) (segments : List Segment) (words : List ℕ) (level levels root x : ℕ) (r l : Lowest) → level ≡ levels → LowestFor mask segments words level root x r → r ≡ l
-    → LowestFor mask segments words levels root x l
-lowest-told mask segments words level levels root x r l e h k =
-    subst (λ (n : ℕ). LowestFor mask segments words n root x l) e (subst (λ (s : Lowest). LowestFor mask segments words level root x s) k h)
+-- the table of level 1 was gone over
+module _ {w : Lent} (width : Width) {level root from : ℕ} {t : Table} {before later : Progress} {bytes : List ℕ} {r next : ℕ} (level-is : level ≡ levels_of width) (lowest : Lowest w level root from t)
+    (going : GoesOn before from) (inside : from < span_pages (levels_of width)) (next-is : next ≡ after 1 from) (found : Searched w 1 t from before later bytes r) where
+  abbrev pages : ℕ → PageState
+  pages = (pages_below w (levels_of width) root).page
 
-module _ (mask : ℕ) (segments : List Segment) (words : List ℕ) (width : Width) (root from place rights : ℕ) (before bytes : List ℕ) where
-  module _ (going : GoesOn before from) (known : TrueIn mask segments words bytes) (inside : from < span_pages (levels_of width)) (told : LowestFor mask segments words (levels_of width) root from (lowest.At place rights)) where
-    abbrev pages : ℕ → PageState
-    pages = (pages_from mask segments words (levels_of width) root).page
+  first-pages : Passes pages from (after 1 from) before later r
+  first-pages = passes-congr (omega (arith, ahead_of 1 from)) (rw level-is at lowest.pages) found.passes
 
-    abbrev end : ℕ
-    end = after 1 from
+  pub ends-in : next ≤ span_pages (levels_of width)
+  ends-in = omega (arith, next-is, ends-inside width from inside)
 
-    module _ (u b : List ℕ) (came : ℕ) (found : SearchedLowest mask words place rights from before u bytes b came) (next : ℕ) (next-is : next ≡ end) where
-      first-pages : Passes pages from end before u came × TrueIn mask segments words b
-      first-pages =
-          let (p, h) = found (table_in segments words) known in
-          (passes-congr pages (pages_by mask (table_in segments words) 1 (table_from words place) (rights_over rights)) from end before u came (omega (arith, ahead_of 1 from)) told.1 p, h)
+  -- it comes to a page of the table, or to its end
+  pub first-returns : r < next → SearchedAll w (levels_of width) root from before later bytes r
+  first-returns l = record {
+    passes = passes-in (omega arith) (omega (arith, ahead_of 1 from)) (ends-inside width from inside) (omega (arith, next-is)) (passes_none going) first-pages;
+    known = found.known;
+  }
 
-      pub ends-in : next ≤ span_pages (levels_of width)
-      ends-in = omega (arith, next-is, ends-inside width from inside)
+  to-end : next ≤ r → Passes pages from next before later next
+  to-end n =
+      let e : r ≡ next = omega (arith, next-is, passes-le (omega (arith, ahead_of 1 from)) first-pages) in
+      rw (e, ← next-is) at first-pages
 
-      -- it comes to a page of the table, or to its end
-      pub first-returns : came < next → SearchedAll mask segments words (levels_of width) root from before u b came
-      first-returns l = (
-        passes-in pages from from end before before u (omega arith) (omega (arith, ahead_of 1 from)) (passes_none pages from before going) came (span_pages (levels_of width)) (ends-inside width from inside) (omega (arith, next-is)) first-pages.0,
-        first-pages.1,
-      )
+  pub goes-on : next ≤ r → GoesOn later next
+  goes-on n = still-goes going (to-end n)
 
-      to-end : next ≤ came → Passes pages from end before u end
-      to-end n =
-          let l : came ≤ end = passes-le pages from end before u came (omega (arith, ahead_of 1 from)) going first-pages.0 in
-          let e : came ≡ end = omega (arith, next-is) in
-          subst (λ (y : ℕ). Passes pages from end before u y) e first-pages.0
-
-      pub goes-on : next ≤ came → GoesOn u next
-      goes-on n = rw next-is (still-goes pages from end before u going (to-end n))
-
-      pub first-true : TrueIn mask segments words b
-      first-true = first-pages.1
-
-      pub rest-returns : next ≤ came → (v d : List ℕ) (y : ℕ) → SearchedAll mask segments words (levels_of width) root next u v d y → SearchedAll mask segments words (levels_of width) root from before v d y
-      rest-returns n v d y p = (
-        passes_then pages from end (span_pages (levels_of width)) before u v (omega (arith, ahead_of 1 from)) (ends-inside width from inside) (to-end n) y
-            (subst (λ (x : ℕ). Passes pages x (span_pages (levels_of width)) u v y) next-is p.0),
-        p.1,
-      )
+  pub rest-returns : next ≤ r → {u : Progress} {b : List ℕ} {y : ℕ} → SearchedAll w (levels_of width) root next later u b y → SearchedAll w (levels_of width) root from before u b y
+  rest-returns n s = record { passes = passes_then (omega (arith, next-is, ahead_of 1 from)) ends-in (to-end n) s.passes; known = s.known }

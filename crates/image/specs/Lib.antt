@@ -1,4 +1,5 @@
 pub mod Tables
+pub mod Root
 pub mod Search
 pub mod Found
 pub mod List

@@ -1,23 +1,22 @@
 -- What the cases of the code's answers stand for: the run search.
-use Rattle.answer.specs.Outcome.{Outcome, gives, refuses}
-use Rattle.mapping.specs.Pages.{Reason, reserved, outside}
+use Rattle.std.specs.Prelude.{Result}
+use Rattle.answer.specs.Outcome.{Outcome}
+use Rattle.answer.specs.Answers.{outcome_of}
+use Rattle.answer.specs.declared.refusal.Refusal.{Refusal}
 use Rattle.laws.specs.Item.{item}
 use Rattle.frame.specs.Frame as frame
 use Rattle.page.specs.Page as page
 use Rattle.paging.specs.Search.{Report, end, stop, run}
 use Rattle.walk.specs.Rights.{rights_held}
-use Rattle.image.specs.declared.run_search.StopReason.{StopReason}
-use Rattle.image.specs.declared.run_search.StopReason.TheVariants as reason
+use Rattle.found.specs.Progress.{reason_of}
 use Rattle.image.specs.declared.run_search.SearchAnswer.{SearchAnswer}
 use Rattle.image.specs.declared.run_search.SearchAnswer.TheVariants as answer
 
 -- what each case of an answer stands for
-abbrev pub reason_of : StopReason → Reason
-reason_of reason.Reserved = reserved
-reason_of reason.Outside = outside
+abbrev pub reported_of : SearchAnswer → Report
+reported_of answer.End = end
+reported_of (answer.Stop p l r) = stop (item (page.start p) (page.bytes p)) l (reason_of r)
+reported_of (answer.Run p f c h) = run (item (page.start p) (page.bytes p)) (item (frame.start f) (frame.bytes f)) c (rights_held h)
 
-abbrev pub report_of : SearchAnswer → Outcome Report
-report_of answer.End = gives end
-report_of (answer.Stop p l r) = gives (stop (item (page.start p) (page.bytes p)) l (reason_of r))
-report_of (answer.Run p f c h) = gives (run (item (page.start p) (page.bytes p)) (item (frame.start f) (frame.bytes f)) c (rights_held h))
-report_of (answer.Refused k) = refuses k
+abbrev pub report_of : Result SearchAnswer Refusal → Outcome Report
+report_of = outcome_of reported_of

@@ -6,10 +6,11 @@ mod list_searches;
 mod lowest;
 mod numbers;
 mod pages;
-mod progress;
+mod root;
 mod run_search;
 mod span;
 mod tables;
 
-pub use list_searches::{ANSWER_WORDS, ListAnswer, list};
-pub use run_search::{SearchAnswer, StopReason, search};
+pub use found::StopReason;
+pub use list_searches::{Listed, list};
+pub use run_search::{ANSWER_WORDS, END, OUTSIDE, RESERVED, RUN, SearchAnswer, search};

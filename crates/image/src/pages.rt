@@ -1,11 +1,11 @@
 // The search in a table of level 1.
 ghost use Rattle.std.specs.Prelude.{◌≡◌, ◌+◌, ◌*◌, ◌^◌, ◌<◌, length};
+ghost use Rattle.found.specs.Progress.{progress_of};
 ghost use Rattle.paging.specs.Pages.{Alike, PassesPages};
 ghost use Rattle.paging.specs.Progress.{GoesOn};
 
-use crate::progress::{stop, take};
-use found::{END, RESERVED};
-use walk::{TABLE_WORDS, allows, frame_in, is_present, rights_bits};
+use found::{Progress, StopReason};
+use walk::{Rights, TABLE_WORDS, allows, frame_in, is_present};
 
 // The bits of an entry of level 1 that are read: present, the rights and the frame.
 const READ: u64 = 0x800f_ffff_ffff_f007;
@@ -16,17 +16,12 @@ fn alike(table: &[u64], from: usize, mask: u64, step: u64, reserved: u64) -> usi
     ensures { Alike table.now from mask step reserved result }
 {
     let mut due = table[from] & mask;
-    let mut i = from + 1;
-    while i < TABLE_WORDS {
+    for i in from + 1..TABLE_WORDS {
         due += step;
         let word = table[i];
-        if word & mask != due {
+        if word & mask != due || word & reserved != 0 {
             return i;
         }
-        if word & reserved != 0 {
-            return i;
-        }
-        i += 1;
     }
     TABLE_WORDS
 }
@@ -34,38 +29,35 @@ fn alike(table: &[u64], from: usize, mask: u64, step: u64, reserved: u64) -> usi
 // Goes over the pages from one on up to the end of their table, and answers the page that it comes to.
 pub(crate) fn pass_pages(
     table: &[u64],
-    progress: &mut [u64],
+    progress: &mut Progress,
     from: u64,
     rights: u64,
     reserved: u64,
 ) -> u64
-    requires { (length table.now ≡ 512) × GoesOn progress.old from × (from < 2 ^ 45) }
-    ensures { PassesPages reserved table.now rights from progress.old progress.new result }
+    requires whole { length table.now ≡ 512 }
+    requires going { GoesOn (progress_of progress.old) from }
+    requires bounded { from < 2 ^ 45 }
+    ensures { PassesPages reserved table.now rights from (progress_of progress.old) (progress_of progress.new) result }
 {
     let first = from as usize % TABLE_WORDS;
     let start = from - first as u64;
     let mut i = first;
+    // Words that are alike are passed at once, so the next one is where `alike` ends.
     while i < TABLE_WORDS {
         let page = start + i as u64;
         let word = table[i];
-        let present = is_present(word);
-        if present {
+        if is_present(word) {
             if word & reserved != 0 {
-                stop(progress, RESERVED, page, 1);
+                progress.stop(page, 1, StopReason::Reserved);
                 return page;
             }
-            let taken = take(
-                progress,
-                page,
-                frame_in(word),
-                rights_bits(rights & allows(word)),
-            );
-            if !taken {
+            let own = Rights::over(rights & allows(word));
+            if !progress.take(page, frame_in(word), own) {
                 return page;
             }
             i = alike(table, i, READ, 0x1000, reserved);
         } else {
-            if progress[0] != END {
+            if !progress.is_unfound() {
                 return page;
             }
             i = alike(table, i, 1, 0, 0);

@@ -1,17 +1,23 @@
-// The search over tables, each lower one by the same rule, one level down.
+// The search over tables, each lower one by the same rule, one level down. The words, the segments and the bits that are reserved are parameters of their own and no struct, as
+// `walk::Tables`: the compiler then sees that there is one segment and that no bit is reserved, and a list takes up to a third less time.
 ghost use Rattle.std.specs.Prelude.{◌≡◌, ◌+◌, ◌-◌, ◌^◌, ◌≤◌, ◌<◌, length};
-ghost use Rattle.mapping.specs.Walk.{span_pages};
-ghost use Rattle.paging.specs.EmptyTables.{TrueIn};
-ghost use Rattle.paging.specs.Memory.{segments_in, table_from, table_in, total, Inside};
+ghost use Rattle.found.specs.Progress.{progress_of};
+ghost use Rattle.paging.specs.Memory.{table_from};
 ghost use Rattle.paging.specs.Progress.{GoesOn};
-ghost use Rattle.image.specs.Tables.{Searched, SearchedLowest, Steps};
+ghost use Rattle.image.specs.Tables.{HasTable, LooksAt, Searched, SearchedLowest, Steps, TrueFor, lent};
 
 use crate::pages::pass_pages;
-use crate::progress::{stop, take};
 use crate::span::span_end;
 use empty_tables::{is_empty, remember_whole};
-use found::{END, OUTSIDE, RESERVED};
-use walk::{Look, Place, TABLE_WORDS, allows, look_word, rights_bits, table_place, within_span};
+use found::{Progress, StopReason};
+use walk::{Look, Rights, Segment, TABLE_WORDS, allows, look_word, table_place, within_span};
+
+// A table on the way down: its place in the lent words, and the bits that every word above it has.
+#[derive(Clone, Copy)]
+pub(crate) struct Table {
+    pub place: usize,
+    pub rights: u64,
+}
 
 // What the search does at an entry.
 #[derive(Clone, Copy)]
@@ -20,62 +26,68 @@ pub(crate) enum Step {
     Halt,
     // It passes the entry's pages.
     Pass,
-    // It goes on in the table at a place, with the bits that every word above that has.
-    Down(usize, u64),
+    // It goes on in a table.
+    Down(Table),
 }
 
-// What the search does at the entry that a page is under, a word of a table of level below + 1. The pages of a table that is known to hold nothing are passed at once.
+// What the entry says that a page is under, in a table of level below + 1.
+pub(crate) fn look_at(words: &[u64], table: Table, below: u64, page: u64, reserved: u64) -> Look
+    requires { (1 ≤ below) × (below ≤ 4) × (table.place + 512 ≤ length words.now) }
+    ensures { LooksAt words.now reserved table below page result }
+{
+    let word = words[table.place + (page >> (9 * below)) as usize % TABLE_WORDS];
+    look_word(word, below - 1, reserved)
+}
+
+// What the search does at the entry that a page is under, in a table of level below + 1. The pages of a table that is known to hold nothing are passed at once.
 fn step_at(
-    lent: u64,
-    segments: &[u64],
+    words: &[u64],
+    segments: &[Segment],
     empty: &[u8],
-    progress: &mut [u64],
-    word: u64,
+    progress: &mut Progress,
+    table: Table,
     below: u64,
     page: u64,
-    rights: u64,
     reserved: u64,
 ) -> Step
-    requires { GoesOn progress.old page × (1 ≤ below) × (below ≤ 4) × (page < 2 ^ 45) × (total (segments_in segments.now) ≡ lent) }
-    ensures { Steps (segments_in segments.now) reserved word below page rights empty.now progress.old progress.new result }
+    requires going { GoesOn (progress_of progress.old) page }
+    requires known { TrueFor (lent words.now segments.now reserved) empty.now }
+    requires upper { (1 ≤ below) × (below ≤ 4) }
+    requires bounded { page < 2 ^ 45 }
+    requires inside { HasTable (lent words.now segments.now reserved) table.place }
+    ensures { Steps (lent words.now segments.now reserved) below table page (progress_of progress.old) (progress_of progress.new) result }
 {
-    let look = look_word(word, below - 1, reserved);
-    match look {
+    match look_at(words, table, below, page, reserved) {
         Look::Absent => {
-            if progress[0] == END {
+            if progress.is_unfound() {
                 return Step::Pass;
             }
             Step::Halt
         }
         Look::Reserved => {
-            stop(progress, RESERVED, page, below + 1);
+            progress.stop(page, below + 1, StopReason::Reserved);
             Step::Halt
         }
         Look::Leaf(first, word) => {
             let frame = first + within_span(page, below);
-            let taken = take(progress, page, frame, rights_bits(rights & allows(word)));
-            if taken {
+            let own = Rights::over(table.rights & allows(word));
+            if progress.take(page, frame, own) {
                 return Step::Pass;
             }
             Step::Halt
         }
         Look::Next(address, word) => {
-            let next = table_place(lent, segments, address);
-            match next {
-                Place::Outside => {
-                    stop(progress, OUTSIDE, page, below + 1);
-                    Step::Halt
-                }
-                Place::At(lower) => {
-                    if progress[0] == END {
-                        let known = is_empty(empty, lower, below - 1);
-                        if known {
-                            return Step::Pass;
-                        }
-                    }
-                    Step::Down(lower, rights & allows(word))
-                }
+            let Some(place) = table_place(words.len() as u64, segments, address) else {
+                progress.stop(page, below + 1, StopReason::Outside);
+                return Step::Halt;
+            };
+            if progress.is_unfound() && is_empty(empty, place, below - 1) {
+                return Step::Pass;
             }
+            Step::Down(Table {
+                place,
+                rights: table.rights & allows(word),
+            })
         }
     }
 }
@@ -83,99 +95,72 @@ fn step_at(
 // The table at a place, as a part of the lent words.
 fn table_at(words: &[u64], place: usize) -> &[u64]
     requires { place + 512 ≤ length words.now }
-    ensures { result.now ≡ table_from words.now place }
+    ensures part { result.now ≡ table_from words.now place }
+    ensures whole { length result.now ≡ 512 }
 {
     &words[place..place + TABLE_WORDS]
 }
 
-// Goes over the pages of the table of level 1 at a place, from one on.
+// Goes over the pages of a table of level 1, from one on.
 pub(crate) fn pass_lowest(
     words: &[u64],
     empty: &mut [u8],
-    progress: &mut [u64],
-    place: usize,
+    progress: &mut Progress,
+    table: Table,
     from: u64,
-    rights: u64,
     reserved: u64,
 ) -> u64
-    requires { GoesOn progress.old from × (place + 512 ≤ length words.now) × (from < 2 ^ 45) }
-    ensures { (length empty.new ≡ length empty.old) × SearchedLowest reserved words.now place rights from progress.old progress.new empty.old empty.new result }
+    requires going { GoesOn (progress_of progress.old) from }
+    requires bounded { from < 2 ^ 45 }
+    requires inside { table.place + 512 ≤ length words.now }
+    ensures { SearchedLowest words.now reserved table from (progress_of progress.old) (progress_of progress.new) empty.old empty.new result }
 {
-    let table = table_at(words, place);
-    let reached = pass_pages(table, progress, from, rights, reserved);
-    remember_whole(empty, progress[0] == END, place, 0, from);
+    let part = table_at(words, table.place);
+    let reached = pass_pages(part, progress, from, table.rights, reserved);
+    remember_whole(empty, progress.is_unfound(), table.place, 0, from);
     reached
 }
 
-// Goes over the pages of the table of the level at a place, from one on, and answers the page that it comes to. One that is gone through whole and holds nothing is known
-// from then on.
+// Goes over the pages of a table of the level, from one on, and answers the page that it comes to. One that is gone through whole and holds nothing is known from then on.
 pub(crate) fn pass_table(
     words: &[u64],
-    segments: &[u64],
+    segments: &[Segment],
     empty: &mut [u8],
-    progress: &mut [u64],
-    place: usize,
+    progress: &mut Progress,
+    table: Table,
     level: u64,
-    pages: u64,
     from: u64,
-    rights: u64,
     reserved: u64,
 ) -> u64
-    requires { GoesOn progress.old from × TrueIn reserved (segments_in segments.now) words.now empty.old × (2 ≤ level) × (level ≤ 5) × (pages ≡ span_pages (level - 1)) × (from < 2 ^ 45) × Inside (segments_in segments.now) words.now place }
-    ensures { (length empty.new ≡ length empty.old) × Searched reserved (table_in (segments_in segments.now) words.now) words.now level place rights from progress.old progress.new empty.new result }
+    requires going { GoesOn (progress_of progress.old) from }
+    requires known { TrueFor (lent words.now segments.now reserved) empty.old }
+    requires upper { (2 ≤ level) × (level ≤ 5) }
+    requires bounded { from < 2 ^ 45 }
+    requires inside { HasTable (lent words.now segments.now reserved) table.place }
+    ensures { Searched (lent words.now segments.now reserved) level table from (progress_of progress.old) (progress_of progress.new) empty.new result }
 {
     let below = level - 1;
-    let end = span_end(from, level, pages * TABLE_WORDS as u64);
+    let end = span_end(from, level);
     let mut at = from;
+    // The first step ends where its entry's span does, so pages are counted and no entries.
     while at < end {
-        let next = span_end(at, below, pages);
-        let word = words[place + (at >> (9 * below)) as usize % TABLE_WORDS];
-        let step = step_at(
-            words.len() as u64,
-            segments,
-            &empty[0..empty.len()],
-            progress,
-            word,
-            below,
-            at,
-            rights,
-            reserved,
-        );
-        match step {
-            Step::Halt => {
-                return at;
-            }
+        let next = span_end(at, below);
+        match step_at(words, segments, empty, progress, table, below, at, reserved) {
+            Step::Halt => return at,
             Step::Pass => {}
-            Step::Down(lower, above) => {
-                // Parts that are the whole: the slices' places and lengths then go on in registers.
-                let image = &words[0..words.len()];
-                if below == 1 {
-                    let came = pass_lowest(image, empty, progress, lower, at, above, reserved);
-                    if came < next {
-                        return came;
-                    }
+            Step::Down(lower) => {
+                let reached = if below == 1 {
+                    pass_lowest(words, empty, progress, lower, at, reserved)
                 } else {
-                    let parts = &segments[0..segments.len()];
-                    let reached = pass_table(
-                        image,
-                        parts,
-                        empty,
-                        progress,
-                        lower,
-                        below,
-                        pages >> 9,
-                        at,
-                        above,
-                        reserved,
-                    );
-                    if reached < next {
-                        return reached;
-                    }
+                    pass_table(words, segments, empty, progress, lower, below, at, reserved)
+                };
+                if reached < next {
+                    return reached;
                 }
             }
         }
         at = next;
     }
-    remember_whole(empty, progress[0] == END, place, below, from);
+    remember_whole(empty, progress.is_unfound(), table.place, below, from);
     end
 }

@@ -1,9 +1,10 @@
 -- The input of the program `runs`. The sentences are those of document 01, "Program `runs`".
-use Rattle.std.specs.Prelude.{ℕ, zero, suc, ◌+◌, ◌*◌, Bool, ◌&&◌, List, [], ◌∷◌, leb, eqb, length, take, drop}
+use Rattle.std.specs.Prelude.{ℕ, zero, suc, ◌+◌, ◌*◌, Bool, ◌&&◌, List, [], ◌∷◌, Option, Some, None, Result, leb, eqb, length, take, drop}
 use Rattle.answer.specs.Outcome.{Outcome, gives, refuses, unless}
 use Rattle.answer.specs.Refusal.{wrong_file}
-use Rattle.input.specs.declared.input.HeaderAnswer.{HeaderAnswer}
-use Rattle.input.specs.declared.input.HeaderAnswer.TheVariants as answer
+use Rattle.answer.specs.Answers.{outcome_of}
+use Rattle.answer.specs.declared.refusal.Refusal.{Refusal}
+use Rattle.input.specs.declared.input as read
 
 -- "all big-endian": the number that bytes are, after what stands before them
 unfoldable pub number_after : ℕ → List ℕ → ℕ
@@ -59,7 +60,11 @@ unfoldable pub words_from : List ℕ → (i k : ℕ) → List ℕ
 words_from bytes i zero = []
 words_from bytes i (suc k) = field bytes i word_bytes ∷ words_from bytes (i + word_bytes) k
 
--- what each case of an answer stands for
-abbrev pub header_in : HeaderAnswer → Outcome Header
-header_in (answer.Header h) = gives (record { words = h.words; base = h.base; root = h.root })
-header_in (answer.Refused k) = refuses k
+-- what a result stands for
+abbrev pub header_in : Result read.Header.Header Refusal → Outcome Header
+header_in = outcome_of (λ h. record { words = h.words; base = h.base; root = h.root })
+
+-- no header where the file is wrong
+abbrev pub header_found : Option read.Header.Header → Outcome Header
+header_found (Some h) = gives (record { words = h.words; base = h.base; root = h.root })
+header_found None = refuses wrong_file

@@ -3,4 +3,4 @@
 
 mod input;
 
-pub use input::{Header, HeaderAnswer, MOST_WORDS, read_header, read_words};
+pub use input::{Header, MOST_WORDS, read_header, read_words};

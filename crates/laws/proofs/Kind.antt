@@ -1,36 +1,44 @@
 -- Draws from ranges by their numbers, taken apart: refused, and not refused.
-use Prim.Native.Nat.{ℕ, zero, suc}
-use mathlib.Core.Path.{◌≡◌, refl}
-use mathlib.Core.Option.{Option, none, some}
-use native.Mathlib.Omega.{arith}
+use Rattle.std.specs.Prelude.{◌≡◌, ℕ, zero, suc, refl}
+use Rattle.std.proofs.Math.Option.{Option, none, some}
+use Rattle.answer.specs.Outcome.{gives, refuses, unless_refused}
 use Rattle.laws.specs.Draw.{Draw}
 use Rattle.laws.specs.Drawing.{Drawn}
-use Rattle.laws.specs.Kind.{Kind, drawn, drawn_of}
+use Rattle.laws.specs.Item.{item}
+use Rattle.laws.specs.Kind.{Kind, GuardedDraw, guarded, RangeDraw, item_answer, settled, drawn_unless, drawn, drawn_of}
 
-module _ {P A D : Type 0} (k : Kind P A) (made : A → P → P → D) (x y : P) (d : Draw) where
-  pub drawn-refused : (m : ℕ) → (m ≡ 0 → ⊥) → made (k.refused m) x y ≡ drawn k made x y m d
-  drawn-refused zero h = absurd (h refl)
-  drawn-refused (suc m) h = refl
+module _ {P R : Type 0} (k : Kind P) (made : P → P → R) (x y : P) where
+  -- what a draw on the numbers gives or with what it is refused
+  pub guarded_gives : (g : GuardedDraw) (d : Draw) → gives d ≡ guarded g → settled k made x y d ≡ drawn k made x y g
+  guarded_gives g d e = go g.refusal g.draw e
+    where
+      go : (n : ℕ) (b : Draw) → gives d ≡ unless_refused n (gives b) → settled k made x y d ≡ drawn_unless k made x y n b
+      go zero b f = let q : d ≡ b = cc in rw q refl
+      go (suc n) b f = cc
 
-  pub drawn-settled : (m : ℕ) → m ≡ 0 → made (k.answered x d.item) (k.placed x d.start) (k.placed y d.end) ≡ drawn k made x y m d
-  drawn-settled m h = rw h
+  pub guarded_refuses : (g : GuardedDraw) (m : ℕ) → refuses m ≡ guarded g → record { answer = refuses m; range = made x y } ≡ drawn k made x y g
+  guarded_refuses g m e = go g.refusal g.draw e
+    where
+      go : (n : ℕ) (b : Draw) → refuses m ≡ unless_refused n (gives b) → record { answer = refuses m; range = made x y } ≡ drawn_unless k made x y n b
+      go zero b f = cc
+      go (suc n) b f = let q : m ≡ suc n = cc in rw q refl
 
--- what the answers of a kind give
-pub record Reads {P A : Type 0} (k : Kind P A) : Type 0 where
-  pub of-answer : (x : P) (i : Option ℕ) → k.item (k.answered x i) ≡ some i
-  pub of-refusal : (m : ℕ) → k.item (k.refused m) ≡ none
+  pub drawn-refused : (m : ℕ) (d : Draw) → (m ≡ 0 → ⊥) → record { answer = refuses m; range = made x y } ≡ drawn_unless k made x y m d
+  drawn-refused zero d h = absurd (h refl)
+  drawn-refused (suc m) d h = refl
 
--- the same as what is given and left; `answer` and `range` are those of what `made` puts together, and `ends` puts the range together
-module _ {P A D S : Type 0} (k : Kind P A) (made : A → P → P → D) (answer : D → A) (range : D → S) (ends : P → P → S)
-    (p : Reads k) (q : (a : A) (x y : P) → (answer (made a x y) ≡ a) × (range (made a x y) ≡ ends x y)) (x y : P) (d : Draw) where
-  pub of-settled : (m : ℕ) → m ≡ 0
-      → drawn_of k (answer (drawn k made x y m d)) (range (drawn k made x y m d)) ≡ some (record { item = d.item; range = ends (k.placed x d.start) (k.placed y d.end) })
-  of-settled m h =
-      let (u, v) = q (k.answered x d.item) (k.placed x d.start) (k.placed y d.end) in
-      rw (h, u, v, p.of-answer x d.item)
+  pub drawn-settled : (m : ℕ) (d : Draw) → m ≡ 0 → settled k made x y d ≡ drawn_unless k made x y m d
+  drawn-settled m d h = rw h
 
-  pub not-refused : (m : ℕ) (e : Drawn S) → drawn_of k (answer (drawn k made x y m d)) (range (drawn k made x y m d)) ≡ some e → m ≡ 0
-  not-refused zero e h = refl
-  not-refused (suc m) e h =
-      let (u, v) = q (k.refused (suc m)) x y in
-      absurd (let i : none ≡ some e = rw (u, p.of-refusal (suc m)) at h in let z : ◌≡◌ {A = ℕ} 0 1 = cc in omega arith)
+  -- where an item placed at a number starts there, the same as what is given and left
+  module _ (p : (a : ℕ) → (k.item (k.placed x a)).start ≡ a) where
+    of-item : (i : Option ℕ) (r : R) → drawn_of (record { answer = item_answer k x i; range = r }) ≡ some (record { item = i; range = r })
+    of-item none r = refl
+    of-item (some a) r = rw (p a) refl
+
+    pub of-settled : (m : ℕ) (d : Draw) → m ≡ 0 → drawn_of (drawn_unless k made x y m d) ≡ some (record { item = d.item; range = made (k.placed x d.start) (k.placed y d.end) })
+    of-settled m d h = rw h (of-item d.item (made (k.placed x d.start) (k.placed y d.end)))
+
+  pub not-refused : (m : ℕ) (d : Draw) (e : Drawn R) → drawn_of (drawn_unless k made x y m d) ≡ some e → m ≡ 0
+  not-refused zero d e h = refl
+  not-refused (suc m) d e h = cc

@@ -33,6 +33,10 @@ given s a o = unless s.argument (s.holds a) o
 abbrev pub address : Addresses → ℕ → Outcome ℕ
 address s a = given s a (gives a)
 
+-- a number that a call comes to: "6 if the virtual result isn't canonical, 8 if the physical one is 2^52 or more"
+abbrev pub resulting : Addresses → ℕ → Outcome ℕ
+resulting s n = unless s.result (s.holds n) (gives n)
+
 abbrev pub is_null : Addresses → ℕ → Outcome Bool
 is_null s a = given s a (gives (eqb a 0))
 
@@ -42,10 +46,10 @@ is_aligned s a n = given s a (multiple_of a n)
 
 -- "`+` and `-` with a count: 5 beyond 64 bits or below zero; then 6 .., 8 .."
 abbrev pub sum : Addresses → ℕ → ℕ → Outcome ℕ
-sum s a n = unless overflow (ltb (a + n) (2 ^ 64)) (unless s.result (s.holds (a + n)) (gives (a + n)))
+sum s a n = unless overflow (ltb (a + n) (2 ^ 64)) (resulting s (a + n))
 
 abbrev pub difference : Addresses → ℕ → ℕ → Outcome ℕ
-difference s a n = unless overflow (leb n a) (unless s.result (s.holds (a - n)) (gives (a - n)))
+difference s a n = unless overflow (leb n a) (resulting s (a - n))
 
 abbrev pub plus : Addresses → ℕ → ℕ → Outcome ℕ
 plus s a n = given s a (sum s a n)

@@ -1,7 +1,8 @@
 -- The lines of the program `runs`, as ASCII. The sentences are those of document 01, "Program `runs`".
-use Rattle.std.specs.Prelude.{ℕ, zero, suc, ◌-◌, ◌/◌, ◌%◌, Bool, cond, List, [], ◌∷◌, ◌++◌, ltb, length, take, replicate}
+use Rattle.std.specs.Prelude.{ℕ, zero, suc, ◌-◌, ◌/◌, ◌%◌, Bool, true, false, cond, List, [], ◌∷◌, ◌++◌, ltb, length, replicate}
 use Rattle.io.specs.Digits.{hex_digit_ascii, last_digits}
-use Rattle.listing.specs.declared.line.Line.{Line}
+use Rattle.found.specs.declared.progress.StopReason.{StopReason}
+use Rattle.found.specs.declared.progress.StopReason.TheVariants.{Reserved, Outside}
 
 -- "addresses in 16 lower-case hex digits"
 abbrev pub hex : ℕ → List ℕ
@@ -70,14 +71,15 @@ more_line p = more_word ++ (hex p ++ newline)
 unfoldable pub refused_line : ℕ → List ℕ
 refused_line k = refused_word ++ (decimal k ++ newline)
 
--- the bytes of a line
+-- the bytes of a line: no text is longer
 abbrev pub line_bytes : ℕ
 line_bytes = 64
 
--- the line that holds a text: behind the text its bytes are zero
-unfoldable pub line_of : List ℕ → Line
-line_of text = record { bytes = text ++ replicate (line_bytes - length text) 0; len = length text }
+-- a text and the zeros that stand behind it
+abbrev pub padded : List ℕ → List ℕ
+padded text = text ++ replicate (line_bytes - length text) 0
 
--- the text of a line
-abbrev pub text_of : Line → List ℕ
-text_of l = take l.len l.bytes
+-- whether a stop is at an entry with a reserved bit set
+abbrev pub is_reserved : StopReason → Bool
+is_reserved Reserved = true
+is_reserved Outside = false

@@ -1,149 +1,159 @@
 // Lines of text.
-ghost use Rattle.std.specs.Prelude.{◌≡◌, ◌∷◌, [], cond, length};
+ghost use Rattle.std.specs.Prelude.{◌≡◌, ◌+◌, ◌≤◌, ◌++◌, [], length};
 ghost use Rattle.listing.specs.Text as Text;
-ghost use Rattle.listing.specs.Text.{line_bytes, text_of, line_of, run_line, stop_line, end_line, more_line, refused_line};
-ghost use Rattle.listing.specs.Growth.{Room, Longer};
+ghost use Rattle.listing.specs.Text.{line_bytes, padded, is_reserved, rights_text, run_line, stop_line, end_line, more_line, refused_line};
 
-use io::{decimal, hex};
+use arrayvec::ArrayVec;
+use found::StopReason;
+use itoa::Buffer;
+use std::marker::Model;
+use walk::Rights;
 
 // The bytes of a line: no text is longer.
 pub const LINE_BYTES: usize = 64;
 
-// A text, and zeros behind it.
+// A text, its newline last. It lies in the value itself, so that no line can fail for want of memory.
 #[derive(Drop)]
 pub struct Line {
-    pub bytes: [u8; LINE_BYTES],
-    pub len: usize,
+    text: ArrayVec<u8, LINE_BYTES>,
+}
+
+impl Model for Line {
+    ghost use Rattle.std.specs.Prelude.{ℕ, List};
+
+    ghost Value = { List ℕ };
+
+    ghost view = { λ l. l.text.items };
 }
 
 impl Line {
+    // No text yet.
     fn new() -> Line
-        ensures { (text_of result ≡ []) × Room line_bytes result }
+        ensures { result ≡ [] }
     {
         Line {
-            bytes: [0; LINE_BYTES],
-            len: 0,
+            text: ArrayVec::new(),
         }
     }
 
-    // The line with one byte more.
-    fn with_byte(self, byte: u8) -> Line
-        requires { Room 1 self }
-        ensures { Longer 1 self (byte ∷ []) result }
+    // The text.
+    pub fn as_bytes(&self) -> &[u8]
+        ensures value { result.now ≡ self.now }
+        ensures fits { length result.now ≤ line_bytes }
     {
-        let at = self.len;
-        let mut bytes = self.bytes;
-        bytes[at] = byte;
-        Line { bytes, len: at + 1 }
+        self.text.as_slice()
+    }
+
+    // The text, and zeros behind it.
+    pub fn padded(&self) -> [u8; LINE_BYTES]
+        ensures { result ≡ padded self.now }
+    {
+        let text = self.as_bytes();
+        let mut bytes = [0; LINE_BYTES];
+        bytes[..text.len()].copy_from_slice(text);
+        bytes
     }
 
     // The line with a text behind it.
-    fn with(self, text: &[u8]) -> Line
-        requires { Room (length text.now) self }
-        ensures { Longer (length text.now) self text.now result }
+    fn with(mut self, text: &[u8]) -> Line
+        requires { length self + length text.now ≤ line_bytes }
+        ensures { result ≡ self ++ text.now }
     {
-        let mut line = self;
-        let mut i = 0;
-        while i < text.len() {
-            line = line.with_byte(text[i]);
-            i += 1;
-        }
-        line
+        self.text.try_extend_from_slice(text).unwrap();
+        self
     }
 
     // The line with a number of 16 hexadecimal digits.
     fn with_hex(self, n: u64) -> Line
-        requires { Room 16 self }
-        ensures { Longer 16 self (Text.hex n) result }
+        requires { length self + 16 ≤ line_bytes }
+        ensures { result ≡ self ++ Text.hex n }
     {
-        let mut digits = [0u8; 16];
-        let k = hex(n, 16, &mut digits);
+        let mut digits = [0; 16];
+        let k = io::hex(n, 16, &mut digits);
         self.with(&digits[..k])
     }
 
     // The line with a number in decimal.
+    #[tactic(auto, using(crate::proofs::Decimal::decimal_is))]
     fn with_decimal(self, n: u64) -> Line
-        requires { Room 20 self }
-        ensures { Longer 20 self (Text.decimal n) result }
+        requires { length self + 20 ≤ line_bytes }
+        ensures text { result ≡ self ++ Text.decimal n }
+        ensures len { length result ≤ length self + 20 }
     {
-        let mut digits = [0u8; 20];
-        let k = decimal(n, &mut digits);
-        self.with(&digits[..k])
+        self.with(Buffer::new().format(n).as_bytes())
     }
 }
 
-// One of two bytes.
-fn either(on: bool, yes: u8, no: u8) -> u8
-    ensures { result ≡ cond on yes no }
+// The letters of rights: `w`, `u` and `x` (executable), or `-` for one that is not there.
+fn letters(rights: Rights) -> [u8; 3]
+    ensures { result ≡ rights_text rights.writable rights.user rights.no_execute }
 {
-    if on { yes } else { no }
+    [
+        if rights.writable { b'w' } else { b'-' },
+        if rights.user { b'u' } else { b'-' },
+        if rights.no_execute { b'-' } else { b'x' },
+    ]
 }
 
 // `run PAGE FRAME COUNT RIGHTS`
-pub fn run_line(
-    page: u64,
-    frame: u64,
-    count: u64,
-    writable: bool,
-    user: bool,
-    no_execute: bool,
-) -> Line
-    ensures { result ≡ line_of (run_line page frame count writable user no_execute) }
+#[tactic(auto, unfolding(crate::specs::Text::run_line))]
+pub fn run_line(page: u64, frame: u64, count: u64, rights: Rights) -> Line
+    ensures { result ≡ run_line page frame count rights.writable rights.user rights.no_execute }
 {
-    let head = [b'r', b'u', b'n', b' '];
-    let w = either(writable, b'w', b'-');
-    let u = either(user, b'u', b'-');
-    let x = either(no_execute, b'-', b'x');
-    let tail = [b' ', w, u, x, b'\n'];
-    let line = Line::new()
-        .with(&head)
+    Line::new()
+        .with(b"run ")
         .with_hex(page)
-        .with_byte(b' ')
-        .with_hex(frame);
-    line.with_byte(b' ').with_decimal(count).with(&tail)
+        .with(b" ")
+        .with_hex(frame)
+        .with(b" ")
+        .with_decimal(count)
+        .with(b" ")
+        .with(&letters(rights))
+        .with(b"\n")
 }
 
 // `stop PAGE LEVEL reserved` or `stop PAGE LEVEL outside`
-pub fn stop_line(page: u64, level: u64, reserved: bool) -> Line
-    ensures { result ≡ line_of (stop_line page level reserved) }
+#[tactic(auto, unfolding(crate::specs::Text::stop_line))]
+pub fn stop_line(page: u64, level: u64, reason: StopReason) -> Line
+    ensures { result ≡ stop_line page level (is_reserved reason) }
 {
-    let head = [b's', b't', b'o', b'p', b' '];
-    let line = Line::new()
-        .with(&head)
+    let why = match reason {
+        StopReason::Reserved => b"reserved".as_slice(),
+        StopReason::Outside => b"outside".as_slice(),
+    };
+    Line::new()
+        .with(b"stop ")
         .with_hex(page)
-        .with_byte(b' ')
-        .with_decimal(level);
-    if reserved {
-        let tail = [b' ', b'r', b'e', b's', b'e', b'r', b'v', b'e', b'd', b'\n'];
-        return line.with(&tail);
-    }
-    let tail = [b' ', b'o', b'u', b't', b's', b'i', b'd', b'e', b'\n'];
-    line.with(&tail)
+        .with(b" ")
+        .with_decimal(level)
+        .with(b" ")
+        .with(why)
+        .with(b"\n")
 }
 
 // `end`
+#[tactic(auto, unfolding(crate::specs::Text::end_line))]
 pub fn end_line() -> Line
-    ensures { result ≡ line_of end_line }
+    ensures { result ≡ end_line }
 {
-    let text = [b'e', b'n', b'd', b'\n'];
-    Line::new().with(&text)
+    Line::new().with(b"end\n")
 }
 
 // `more PAGE`
+#[tactic(auto, unfolding(crate::specs::Text::more_line))]
 pub fn more_line(page: u64) -> Line
-    ensures { result ≡ line_of (more_line page) }
+    ensures { result ≡ more_line page }
 {
-    let head = [b'm', b'o', b'r', b'e', b' '];
-    Line::new().with(&head).with_hex(page).with_byte(b'\n')
+    Line::new().with(b"more ").with_hex(page).with(b"\n")
 }
 
 // `refused` and the number
+#[tactic(auto, unfolding(crate::specs::Text::refused_line))]
 pub fn refused_line(number: u64) -> Line
-    ensures { result ≡ line_of (refused_line number) }
+    ensures { result ≡ refused_line number }
 {
-    let head = [b'r', b'e', b'f', b'u', b's', b'e', b'd', b' '];
     Line::new()
-        .with(&head)
+        .with(b"refused ")
         .with_decimal(number)
-        .with_byte(b'\n')
+        .with(b"\n")
 }

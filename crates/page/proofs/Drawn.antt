@@ -3,7 +3,7 @@ use Prim.Native.Nat.{ℕ, zero, suc, ◌%◌, ◌^◌, ◌≤◌, ◌<◌}
 use mathlib.Core.Path.{◌≡◌, refl, sym, ◌∙◌}
 use mathlib.Core.Bool.{Bool, true, false, cond}
 use mathlib.Core.List.{List, reverse}
-use mathlib.Core.Option.{Option, none, some}
+use mathlib.Core.Option.{some}
 use native.Mathlib.Omega.{arith}
 use native.Mathlib.Nat.{mod-eq_of_lt}
 use borrow.Author.Tests.{eq-eqb}
@@ -25,35 +25,23 @@ use Rattle.laws.proofs.Ranges.{Items, Ends, Facts, drawn_at, settled}
 use Rattle.laws.proofs.Drawing.{each-once}
 use Rattle.laws.proofs.OneByOne.{Settled, settled as settled_is, one_by_one}
 use Rattle.table.specs.Level.{power_of}
-use Rattle.table.specs.declared.size.PageSize.{PageSize}
 use Rattle.table.proofs.Sizes.{bounds}
+use Rattle.range.specs.Ranges.{made, made_inclusive}
+use Rattle.range.specs.declared.range.Range.{Range}
+use Rattle.range.specs.declared.range_inclusive.RangeInclusive.{RangeInclusive}
 use Rattle.addr.specs.Widths.{width_of}
 use Rattle.laws.specs.Item.{first_refusal, item_refusal, items_refusal}
 use Rattle.addr.specs.declared.width.Width.{Width}
 use Rattle.addr.proofs.Widths.{widths}
 use Rattle.page_draw.specs.Draws.{top_page}
-use Rattle.page.specs.Page.{start, bytes}
-use Rattle.page.specs.Range.{page_at, page_answer, item_in, refusal, pages, drawn_below, drawn_through, nth_of, nth_back_of, nth_inclusive_of, nth_back_inclusive_of, pages_of, pages_inclusive_of, IsAccepted, IsAcceptedInclusive, IsEmpty, IsEmptyInclusive, len, len_inclusive, nth_from, nth_inclusive_from, next_from, next_inclusive_from}
+use Rattle.page.specs.Page.{start, bytes, page_at}
+use Rattle.page.specs.Range.{refusal, pages, pages_of, pages_inclusive_of, IsAccepted, IsAcceptedInclusive, IsEmpty, IsEmptyInclusive, len, len_inclusive, nth_from, nth_inclusive_from, next_from, next_inclusive_from}
 use Rattle.page.specs.declared.page.Page.{Page}
-use Rattle.page.specs.declared.range.PageRange.{PageRange}
-use Rattle.page.specs.declared.range_inclusive.PageRangeInclusive.{PageRangeInclusive}
 use Rattle.page.proofs.Ranges as ranges
 use Rattle.page.proofs.Ranges.{two-fit, top-high}
 
-answer-gives : (z : PageSize) (i : Option ℕ) → item_in (page_answer z i) ≡ some i
-unfolding page_answer
-answer-gives z none = refl
-answer-gives z (some a) = refl
-
-items : Items pages start bytes
-items =
-    record {
-      reads = record { of-answer = λ x i. answer-gives x.size i; of-refusal = λ m. refl };
-      start_of = λ x a. refl;
-      bytes_of = λ x a. refl;
-      again = λ x a b. refl;
-      same = λ x. refl;
-    }
+items : Items pages
+items = record { start_of = λ x a. refl; bytes_of = λ x a. refl; again = λ x a b. refl; same = λ x. refl }
 
 passed : (k : ℕ) (gap : Bool) → first_refusal k (cond gap draw_meets_gap 0) ≡ 0 → (k ≡ 0) × (gap ≡ false)
 passed zero true h = absurd (omega arith)
@@ -172,7 +160,7 @@ Free w gap n x y = (refusal w x y ≡ 0) × (gap w (start x) (start y) (bytes x)
 -- a draw with the pages of the range, `made`, is the draw on its numbers, `on`
 abbrev PageFacts : ℕ → (Page → Page → Type 0) → (ℕ → ℕ → ℕ → ℕ) → (ℕ → ℕ → ℕ → ℕ → ℕ → Bool) → (ℕ → ℕ → ℕ → ℕ → draw.Draw) → (ℕ → ℕ → ℕ → ℕ → draw.Draw) → Type 0
 PageFacts w Empty len gap made on =
-    Facts pages start bytes (λ x. top_page (bytes x)) len (λ x y. refusal w x y ≡ 0) Empty (Free w gap) (number w gap) (λ n x y. made (bytes x) (start x) (start y) n) on
+    Facts pages (λ x. top_page (bytes x)) len (λ x y. refusal w x y ≡ 0) Empty (Free w gap) (number w gap) (λ n x y. made (bytes x) (start x) (start y) n) on
 
 module _ (v : Width) (Empty : Page → Page → Type 0) (len : ℕ → ℕ → ℕ → ℕ) (gap : ℕ → ℕ → ℕ → ℕ → ℕ → Bool) (made on : ℕ → ℕ → ℕ → ℕ → draw.Draw)
     (same : (x y : Page) (n : ℕ) → PageEnds (width_of v) (bytes x) (start x) (start y) → gap (width_of v) (start x) (start y) (bytes x) n ≡ false → made (bytes x) (start x) (start y) n ≡ on (bytes x) (start x) (start y) n)
@@ -264,42 +252,34 @@ module _ (v : Width) where
       (λ x y n p h. kept.back-through-none (width_of v) (bytes x) (start x) (start y) n p h)
 
 -- ranges by their ends
-abbrev range : Page → Page → PageRange
-range x y = record { start = x; end = y }
+ends : Ends {P = Page} made (λ r. r.start) (λ r. r.end)
+ends = record { first_of = λ x y. refl; last_of = λ x y. refl; ends_of = λ r. refl }
 
-abbrev range_inclusive : Page → Page → PageRangeInclusive
-range_inclusive x y = record { start = x; end = y }
-
-ends : Ends drawn_below (λ d. d.answer) (λ d. d.range) range (λ r. r.start) (λ r. r.end)
-ends = record { made_of = λ a x y. (refl, refl); first_of = λ x y. refl; last_of = λ x y. refl; ends_of = λ r. refl }
-
-ends_inclusive : Ends drawn_through (λ d. d.answer) (λ d. d.range) range_inclusive (λ r. r.start) (λ r. r.end)
-ends_inclusive = record { made_of = λ a x y. (refl, refl); first_of = λ x y. refl; last_of = λ x y. refl; ends_of = λ r. refl }
+ends_inclusive : Ends {P = Page} made_inclusive (λ r. r.start) (λ r. r.end)
+ends_inclusive = record { first_of = λ x y. refl; last_of = λ x y. refl; ends_of = λ r. refl }
 
 -- what each draw gives and leaves, and where it is not refused
-abbrev out : Side → ℕ → PageRange → Drawn PageRange
-out front n r = drawn_at pages range r.start r.end (ranges.front r.start r.end n (ranges.numbers_in r.start r.end))
-out back n r = drawn_at pages range r.start r.end (ranges.back r.start r.end n (ranges.numbers_in r.start r.end))
+abbrev out : Side → ℕ → Range Page → Drawn (Range Page)
+out front n r = drawn_at pages made r.start r.end (ranges.front r.start r.end n (ranges.numbers_in r.start r.end))
+out back n r = drawn_at pages made r.start r.end (ranges.back r.start r.end n (ranges.numbers_in r.start r.end))
 
-abbrev out_inclusive : Side → ℕ → PageRangeInclusive → Drawn PageRangeInclusive
-out_inclusive front n r = drawn_at pages range_inclusive r.start r.end (ranges.front_inclusive r.start r.end n (ranges.numbers_inclusive_in r.start r.end))
-out_inclusive back n r = drawn_at pages range_inclusive r.start r.end (ranges.back_inclusive r.start r.end n (ranges.numbers_inclusive_in r.start r.end))
+abbrev out_inclusive : Side → ℕ → RangeInclusive Page → Drawn (RangeInclusive Page)
+out_inclusive front n r = drawn_at pages made_inclusive r.start r.end (ranges.front_inclusive r.start r.end n (ranges.numbers_inclusive_in r.start r.end))
+out_inclusive back n r = drawn_at pages made_inclusive r.start r.end (ranges.back_inclusive r.start r.end n (ranges.numbers_inclusive_in r.start r.end))
 
-abbrev IsFree : ℕ → Side → ℕ → PageRange → Type 0
+abbrev IsFree : ℕ → Side → ℕ → Range Page → Type 0
 IsFree w front n r = Free w draw.gap_front_below n r.start r.end
 IsFree w back n r = Free w draw.gap_back_below n r.start r.end
 
-abbrev IsFreeInclusive : ℕ → Side → ℕ → PageRangeInclusive → Type 0
+abbrev IsFreeInclusive : ℕ → Side → ℕ → RangeInclusive Page → Type 0
 IsFreeInclusive w front n r = Free w draw.gap_front_through n r.start r.end
 IsFreeInclusive w back n r = Free w draw.gap_back_through n r.start r.end
 
 given-range : (v : Width) (side : Side) → Settled (IsAccepted (width_of v)) IsEmpty len (IsFree (width_of v) side) (out side) (nth_from (width_of v) side)
-unfolding nth_of nth_back_of
 given-range v front = settled items ends (front-facts v)
 given-range v back = settled items ends (back-facts v)
 
 given-inclusive : (v : Width) (side : Side) → Settled (IsAcceptedInclusive (width_of v)) IsEmptyInclusive len_inclusive (IsFreeInclusive (width_of v) side) (out_inclusive side) (nth_inclusive_from (width_of v) side)
-unfolding nth_inclusive_of nth_back_inclusive_of
 given-inclusive v front = settled items ends_inclusive (front-inclusive-facts v)
 given-inclusive v back = settled items ends_inclusive (back-inclusive-facts v)
 
@@ -311,7 +291,7 @@ pub pages-inclusive-one-by-one : (v : Width) → OneByOne (IsAcceptedInclusive (
 pages-inclusive-one-by-one v = one_by_one (given-inclusive v)
 
 -- each page once
-module _ (v : Width) (r : PageRange) (d : Drawn PageRange) where
+module _ (v : Width) (r : Range Page) (d : Drawn (Range Page)) where
   front-drawn : next_from (width_of v) front r ≡ some d → (d.item ≡ get_elem? (pages_of (width_of v) r) 0) × (pages_of (width_of v) d.range ≡ drop 1 (pages_of (width_of v) r))
   front-drawn h =
       let q = settled_is (given-range v front) 0 r d h in
@@ -326,7 +306,7 @@ module _ (v : Width) (r : PageRange) (d : Drawn PageRange) where
       let p = (ranges.accepted v r.start r.end e).ends in
       rw q (sym (back_below (width_of v) (bytes r.start) (start r.start) (start r.end) p 0 g), pages-back-left (width_of v) (bytes r.start) (start r.start) (start r.end) p 0 g)
 
-module _ (v : Width) (r : PageRangeInclusive) (d : Drawn PageRangeInclusive) where
+module _ (v : Width) (r : RangeInclusive Page) (d : Drawn (RangeInclusive Page)) where
   abbrev all : List ℕ
   all = ranges.numbers_inclusive_in r.start r.end
 

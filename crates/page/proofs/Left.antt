@@ -6,33 +6,33 @@ use mathlib.Core.List.{List, reverse}
 use mathlib.Core.Option.{Option, none, some}
 use native.Mathlib.Omega.{arith}
 use lib.ListN.{get_elem?, drop}
+use Rattle.answer.specs.Outcome.{gives}
 use Rattle.laws.specs.Width.{first_high}
+use Rattle.laws.specs.Item.{Item, item}
+use Rattle.laws.specs.Kind.{item_answer}
 use Rattle.laws.specs.Run.{below, through}
 use Rattle.laws.specs.Draw.{gap_front_below, gap_front_through, gap_back_below, gap_back_through}
 use Rattle.laws.proofs.Width.{sizes}
 use Rattle.laws.proofs.Draw.{end-at-item}
 use Rattle.laws.proofs.PagesLeft.{pages-front-left, pages-back-left, pages-front-through-left, pages-back-through-left}
-use Rattle.table.specs.declared.size.PageSize.{PageSize}
+use Rattle.range.specs.declared.range.Range.{Range}
+use Rattle.range.specs.declared.range_inclusive.RangeInclusive.{RangeInclusive}
 use Rattle.addr.specs.Widths.{width_of}
 use Rattle.addr.specs.declared.width.Width.{Width}
 use Rattle.addr.proofs.Widths.{widths}
 use Rattle.page_draw.proofs.Accepted.{room_of}
 use Rattle.page_draw.specs.Draws.{top_page}
 use Rattle.page.specs.Page.{start, bytes}
-use Rattle.page.specs.Range.{page_at, page_answer, refusal, nth_of, nth_back_of, nth_inclusive_of, nth_back_inclusive_of, pages_of, pages_inclusive_of}
+use Rattle.page.specs.Range.{refusal, pages, nth_of, nth_back_of, nth_inclusive_of, nth_back_inclusive_of, pages_of, pages_inclusive_of}
 use Rattle.page.specs.declared.page.Page.{Page}
-use Rattle.page.specs.declared.page.PageAnswer.TheVariants as page
-use Rattle.page.specs.declared.range.PageRange.{PageRange}
-use Rattle.page.specs.declared.range_inclusive.PageRangeInclusive.{PageRangeInclusive}
 use Rattle.page.proofs.Ranges.{accepted, nth-settled, nth-back-settled, nth-inclusive-settled, nth-back-inclusive-settled}
 
 -- where the page that is answered starts
-answer-start : (z : PageSize) (i : Option ℕ) (p : Page) → page_answer z i ≡ page.Page p → i ≡ some (start p)
-unfolding page_answer
-answer-start z none p h = absurd (let o : ◌≡◌ {A = ℕ} 0 1 = cc in omega arith)
-answer-start z (some a) p h = let q : page_at z a ≡ p = cc in ap (λ (x : Page). some (start x)) q
+answer-start : (x : Page) (o : Option ℕ) (i : Item) → item_answer pages x o ≡ gives i → o ≡ some i.start
+answer-start x none i h = cc
+answer-start x (some a) i h = let q : item a (bytes x) ≡ i = cc in ap (λ (j : Item). some j.start) q
 
-module _ (v : Width) (r : PageRange) (n : ℕ) (e : refusal (width_of v) r.start r.end ≡ 0) where
+module _ (v : Width) (r : Range Page) (n : ℕ) (e : refusal (width_of v) r.start r.end ≡ 0) where
   pub nth_left : gap_front_below (width_of v) (start r.start) (start r.end) (bytes r.start) n ≡ false → pages_of (width_of v) (nth_of (width_of v) r n).range ≡ drop (n + 1) (pages_of (width_of v) r)
   nth_left g =
       let x = accepted v r.start r.end e in
@@ -46,15 +46,15 @@ module _ (v : Width) (r : PageRange) (n : ℕ) (e : refusal (width_of v) r.start
 
   -- the end left is the page drawn
   pub nth-back-end : gap_back_below (width_of v) (start r.start) (start r.end) (bytes r.start) n ≡ false
-      → (p : Page) → (nth_back_of (width_of v) r n).answer ≡ page.Page p → start (nth_back_of (width_of v) r n).range.end ≡ start p
-  nth-back-end g p h =
+      → (i : Item) → (nth_back_of (width_of v) r n).answer ≡ gives i → start (nth_back_of (width_of v) r n).range.end ≡ i.start
+  nth-back-end g i h =
       let x = accepted v r.start r.end e in
       let l = below (start r.start) (start r.end) (bytes r.start) in
       let q = ap (λ d. d.answer) (nth-back-settled v r n e g) ∙ h in
       rw (← nth-back-settled v r n e g)
-      (end-at-item l (start r.start) (start r.end) (bytes r.start) n (start p) x.ends.some x.whole x.last-whole (answer-start r.start.size (get_elem? (reverse l) n) p q))
+      (end-at-item l (start r.start) (start r.end) (bytes r.start) n i.start x.ends.some x.whole x.last-whole (answer-start r.start (get_elem? (reverse l) n) i q))
 
-module _ (v : Width) (r : PageRangeInclusive) (n : ℕ) (e : refusal (width_of v) r.start r.end ≡ 0) where
+module _ (v : Width) (r : RangeInclusive Page) (n : ℕ) (e : refusal (width_of v) r.start r.end ≡ 0) where
   -- the topmost page is high
   top-high : first_high (width_of v) ≤ top_page (bytes r.start)
   top-high = omega (arith, sizes (width_of v) (widths v), room_of v r.start.size)

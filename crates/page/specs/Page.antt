@@ -1,30 +1,39 @@
 -- What the calls on pages answer, beside what they share with frames, over the width `w`. The sentences are those of document 01, "Pages".
-use Rattle.std.specs.Prelude.{ℕ, ◌-◌, ◌*◌, ◌/◌, List, [], ◌∷◌, leb, get_or}
-use Rattle.answer.specs.Outcome.{Outcome, gives, none, refuses, unless, and_then}
+use Rattle.std.specs.Prelude.{ℕ, ◌-◌, ◌*◌, ◌/◌, List, [], ◌∷◌, leb, get_or, Option, Result}
+use Rattle.answer.specs.Outcome.{Outcome, gives, unless, and_then}
+use Rattle.answer.specs.Answers.{outcome_of, optional_of}
 use Rattle.answer.specs.Refusal.{sizes_differ}
+use Rattle.answer.specs.declared.refusal.Refusal.{Refusal}
 use Rattle.laws.specs.Width.{sign_extend}
 use Rattle.laws.specs.Steps.{forward, backward, steps}
 use Rattle.laws.specs.Index.{span, index, assemble}
 use Rattle.table.specs.Index.{given_index}
 use Rattle.table.specs.Level.{bytes_of}
+use Rattle.table.specs.declared.size.PageSize.{PageSize}
 use Rattle.laws.specs.Address.{virt}
 use Rattle.laws.specs.Item.{Item, item, given_item, given_items}
-use Rattle.page.specs.declared.page.Page as page
-use Rattle.page.specs.declared.page.PageAnswer.{PageAnswer}
-use Rattle.page.specs.declared.page.PageAnswer.TheVariants as answer
+use Rattle.page.specs.declared.page.Page.{Page}
 
 -- where a page starts, and its size in bytes
-abbrev pub start : page.Page → ℕ
+abbrev pub start : Page → ℕ
 start p = p.start_address.0
 
-abbrev pub bytes : page.Page → ℕ
+abbrev pub bytes : Page → ℕ
 bytes p = bytes_of p.size
 
--- what each case of an answer stands for
-abbrev pub page_of : PageAnswer → Outcome Item
-page_of (answer.Page p) = gives (item (start p) (bytes p))
-page_of answer.None = none
-page_of (answer.Refused k) = refuses k
+-- a page as an item, and the page of a size that starts at a number
+abbrev pub item_of : Page → Item
+item_of p = item (start p) (bytes p)
+
+abbrev pub page_at : PageSize → ℕ → Page
+page_at z a = record { start_address = record { 0 = a }; size = z }
+
+-- what a result with a page stands for, and what one with a page or none does
+abbrev pub page_of : Result Page Refusal → Outcome Item
+page_of = outcome_of item_of
+
+abbrev pub page_step_of : Result (Option Page) Refusal → Outcome Item
+page_step_of = optional_of item_of
 
 -- a page's index at any level is that of its start
 abbrev pub page_index : ℕ → ℕ → ℕ → ℕ → Outcome ℕ

@@ -1,126 +1,136 @@
-// A virtual page, with the source's names, at 48 bits.
+// A virtual page, with the source's names, at 48 bits. Methods that differ in a name alone stay: the source has each of
+// them, and so has the C interface.
 ghost use Rattle.std.specs.Prelude.{◌≡◌};
-ghost use Rattle.answer.specs.Answers.{u64_of};
-ghost use Rattle.table.specs.Answers.{index_of};
+ghost use Rattle.answer.specs.Answers.{u64_of, steps_of};
+ghost use Rattle.table.specs.Answers.{small_of};
 ghost use Rattle.table.specs.Level.{level_of, bytes_of};
 ghost use Rattle.addr.specs.Answers.{virt_of};
 ghost use Rattle.laws.specs.Address.{virt};
 ghost use Rattle.laws.specs.Item.{from_start, containing, start_of, size_of, plus_item, minus_item, distance_item};
-ghost use Rattle.page.specs.Page.{start, start as page_start, bytes, page_of, page_index, own_index, from_indices, from_indices_2mib, from_indices_1gib, page_forward, page_backward, page_steps};
+ghost use Rattle.page.specs.Page.{start, start as page_start, bytes, page_at, page_of, page_step_of, page_index, own_index, from_indices, from_indices_2mib, from_indices_1gib, page_forward, page_backward, page_steps};
 
-use crate::{indices, width};
-use addr::{VirtAddr, VirtAnswer, Width};
-use answer::U64Answer;
-use table::{IndexAnswer, PageSize, PageTableIndex, PageTableLevel};
+use crate::indices::assembled;
+use crate::width;
+use addr::{VirtAddr, Width};
+use answer::Refusal;
+use item::Item;
+use range::RangeItem;
+use table::{PageSize, PageTableIndex, PageTableLevel};
 
-#[derive(Clone, Copy)]
+#[derive(Clone, Copy, Debug, PartialEq, Eq)]
 pub struct Page {
     pub start_address: VirtAddr,
     pub size: PageSize,
 }
 
-#[derive(Clone, Copy)]
-pub enum PageAnswer {
-    Page(Page),
-    None,
-    Refused(u8),
+// The page with an item's start and size.
+impl From<Item> for Page {
+    ghost from_gives = { λ item page. page ≡ page_at item.size item.start };
+
+    fn from(item: Item) -> Page {
+        Page {
+            start_address: VirtAddr(item.start),
+            size: item.size,
+        }
+    }
 }
 
 impl Page {
     // The page that starts at this address; 3 if it is no multiple of the size.
-    pub fn from_start_address(address: VirtAddr, size: PageSize) -> PageAnswer
+    pub fn from_start_address(address: VirtAddr, size: PageSize) -> Result<Page, Refusal>
         ensures { page_of result ≡ from_start (virt 48) address.0 (bytes_of size) }
     {
-        width::from_start_address(Width::Bits48, address, size)
+        item::from_start(Width::Bits48, address.0, size).map(Page::from)
     }
 
     // The page that this address is in.
-    pub fn containing_address(address: VirtAddr, size: PageSize) -> PageAnswer
+    pub fn containing_address(address: VirtAddr, size: PageSize) -> Result<Page, Refusal>
         ensures { page_of result ≡ containing (virt 48) address.0 (bytes_of size) }
     {
-        width::containing_address(Width::Bits48, address, size)
+        item::containing(Width::Bits48, address.0, size).map(Page::from)
     }
 
-    pub fn start_address(self) -> VirtAnswer
+    pub fn start_address(self) -> Result<VirtAddr, Refusal>
         ensures { virt_of result ≡ start_of (virt 48) (start self) (bytes self) }
     {
-        width::start_address(Width::Bits48, self)
+        item::start_of(Width::Bits48, self.item()).map(VirtAddr)
     }
 
     // The size in bytes.
-    pub fn size(self) -> U64Answer
+    pub fn size(self) -> Result<u64, Refusal>
         ensures { u64_of result ≡ size_of (virt 48) (start self) (bytes self) }
     {
-        width::size(Width::Bits48, self)
+        item::size_of(Width::Bits48, self.item())
     }
 
     // The index into the level-1 table; 7 unless the size is 4 KiB.
-    pub fn p1_index(self) -> IndexAnswer
-        ensures { index_of result ≡ own_index 48 (start self) (bytes self) 1 }
+    pub fn p1_index(self) -> Result<PageTableIndex, Refusal>
+        ensures { small_of result ≡ own_index 48 (start self) (bytes self) 1 }
     {
         width::own_index(Width::Bits48, self, PageTableLevel::One)
     }
 
     // The index into the level-2 table; 7 if the size is 1 GiB.
-    pub fn p2_index(self) -> IndexAnswer
-        ensures { index_of result ≡ own_index 48 (start self) (bytes self) 2 }
+    pub fn p2_index(self) -> Result<PageTableIndex, Refusal>
+        ensures { small_of result ≡ own_index 48 (start self) (bytes self) 2 }
     {
         width::own_index(Width::Bits48, self, PageTableLevel::Two)
     }
 
-    pub fn p3_index(self) -> IndexAnswer
-        ensures { index_of result ≡ page_index 48 (start self) (bytes self) 3 }
+    pub fn p3_index(self) -> Result<PageTableIndex, Refusal>
+        ensures { small_of result ≡ page_index 48 (start self) (bytes self) 3 }
     {
         width::page_table_index(Width::Bits48, self, PageTableLevel::Three)
     }
 
-    pub fn p4_index(self) -> IndexAnswer
-        ensures { index_of result ≡ page_index 48 (start self) (bytes self) 4 }
+    pub fn p4_index(self) -> Result<PageTableIndex, Refusal>
+        ensures { small_of result ≡ page_index 48 (start self) (bytes self) 4 }
     {
         width::page_table_index(Width::Bits48, self, PageTableLevel::Four)
     }
 
-    pub fn page_table_index(self, level: PageTableLevel) -> IndexAnswer
-        ensures { index_of result ≡ page_index 48 (start self) (bytes self) (level_of level) }
+    pub fn page_table_index(self, level: PageTableLevel) -> Result<PageTableIndex, Refusal>
+        ensures { small_of result ≡ page_index 48 (start self) (bytes self) (level_of level) }
     {
         width::page_table_index(Width::Bits48, self, level)
     }
 
-    // The source's `+` with a count of pages.
-    pub fn add(self, count: u64) -> PageAnswer
+    // The source's `+` with a count of pages; 5 beyond 64 bits, 6 if it isn't canonical.
+    pub fn add(self, count: u64) -> Result<Page, Refusal>
         ensures { page_of result ≡ plus_item (virt 48) (start self) (bytes self) count }
     {
-        width::add(Width::Bits48, self, count)
+        item::plus(Width::Bits48, self.item(), count).map(Page::from)
     }
 
-    // The source's `-` with a count of pages.
-    pub fn sub(self, count: u64) -> PageAnswer
+    // The source's `-` with a count of pages; 5 below zero, 6 if it isn't canonical.
+    pub fn sub(self, count: u64) -> Result<Page, Refusal>
         ensures { page_of result ≡ minus_item (virt 48) (start self) (bytes self) count }
     {
-        width::sub(Width::Bits48, self, count)
+        item::minus(Width::Bits48, self.item(), count).map(Page::from)
     }
 
-    // The source's `-` with a page.
-    pub fn sub_page(self, other: Page) -> U64Answer
+    // The source's `-` with a page: how many pages lie between by their numbers, so with the gap; 7 if the
+    // sizes differ, 5 below zero.
+    pub fn sub_page(self, other: Page) -> Result<u64, Refusal>
         ensures { u64_of result ≡ distance_item (virt 48) (start self) (bytes self) (start other) (bytes other) }
     {
-        width::sub_page(Width::Bits48, self, other)
+        item::distance(Width::Bits48, self.item(), other.item())
     }
 
-    pub fn forward_checked(start: Page, count: u64) -> PageAnswer
-        ensures { page_of result ≡ page_forward 48 (page_start start) (bytes start) count }
+    pub fn forward_checked(start: Page, count: u64) -> Result<Option<Page>, Refusal>
+        ensures { page_step_of result ≡ page_forward 48 (page_start start) (bytes start) count }
     {
         width::forward_checked(Width::Bits48, start, count)
     }
 
-    pub fn backward_checked(start: Page, count: u64) -> PageAnswer
-        ensures { page_of result ≡ page_backward 48 (page_start start) (bytes start) count }
+    pub fn backward_checked(start: Page, count: u64) -> Result<Option<Page>, Refusal>
+        ensures { page_step_of result ≡ page_backward 48 (page_start start) (bytes start) count }
     {
         width::backward_checked(Width::Bits48, start, count)
     }
 
-    pub fn steps_between_u64(start: Page, end: Page) -> U64Answer
-        ensures { u64_of result ≡ page_steps 48 (page_start start) (bytes start) (page_start end) (bytes end) }
+    pub fn steps_between_u64(start: Page, end: Page) -> Result<Option<u64>, Refusal>
+        ensures { steps_of result ≡ page_steps 48 (page_start start) (bytes start) (page_start end) (bytes end) }
     {
         width::steps_between_u64(Width::Bits48, start, end)
     }
@@ -131,10 +141,14 @@ impl Page {
         p3_index: PageTableIndex,
         p2_index: PageTableIndex,
         p1_index: PageTableIndex,
-    ) -> PageAnswer
+    ) -> Result<Page, Refusal>
         ensures { page_of result ≡ from_indices p4_index.0 p3_index.0 p2_index.0 p1_index.0 }
     {
-        indices::page_4kib(p4_index.0, p3_index.0, p2_index.0, p1_index.0)
+        let p4 = p4_index.into_u64()?;
+        let p3 = p3_index.into_u64()?;
+        let p2 = p2_index.into_u64()?;
+        let p1 = p1_index.into_u64()?;
+        Ok(assembled(p4, p3, p2, p1, PageSize::Size4KiB))
     }
 
     // The 2 MiB page with these indices.
@@ -142,19 +156,24 @@ impl Page {
         p4_index: PageTableIndex,
         p3_index: PageTableIndex,
         p2_index: PageTableIndex,
-    ) -> PageAnswer
+    ) -> Result<Page, Refusal>
         ensures { page_of result ≡ from_indices_2mib p4_index.0 p3_index.0 p2_index.0 }
     {
-        indices::page_2mib(p4_index.0, p3_index.0, p2_index.0)
+        let p4 = p4_index.into_u64()?;
+        let p3 = p3_index.into_u64()?;
+        let p2 = p2_index.into_u64()?;
+        Ok(assembled(p4, p3, p2, 0, PageSize::Size2MiB))
     }
 
     // The 1 GiB page with these indices.
     pub fn from_page_table_indices_1gib(
         p4_index: PageTableIndex,
         p3_index: PageTableIndex,
-    ) -> PageAnswer
+    ) -> Result<Page, Refusal>
         ensures { page_of result ≡ from_indices_1gib p4_index.0 p3_index.0 }
     {
-        indices::page_1gib(p4_index.0, p3_index.0)
+        let p4 = p4_index.into_u64()?;
+        let p3 = p3_index.into_u64()?;
+        Ok(assembled(p4, p3, 0, 0, PageSize::Size1GiB))
     }
 }

@@ -1,3 +1,3 @@
 pub mod Accepted
-mod Settled
-mod First
+pub mod Settled
+pub mod First

@@ -4,8 +4,6 @@
 mod gap;
 mod next;
 mod nth;
-mod refusal;
 
 pub use next::{next_back_below, next_back_through, next_below, next_through};
-pub use nth::{PagesDraw, nth_back_below, nth_back_through, nth_below, nth_through, top_page};
-pub use refusal::{page_refusal, pages_refusal};
+pub use nth::{nth_back_below, nth_back_through, nth_below, nth_through, top_page};

@@ -1,95 +1,66 @@
 // Draws of the first page or of the last: those with n = 0. Such a draw meets the gap where the range left would start or end in it.
 ghost use Rattle.std.specs.Prelude.{◌≡◌};
+ghost use Rattle.answer.specs.Answers.{outcome_of};
+ghost use Rattle.laws.specs.Kind.{guarded};
 ghost use Rattle.table.specs.Level.{bytes_of};
+ghost use Rattle.draw.specs.Draws.{draw_of};
 ghost use Rattle.addr.specs.Widths.{width_of};
-ghost use Rattle.page_draw.specs.Draws.{pages_draw_of, guarded, nth_below, nth_back_below, nth_through, nth_back_through};
+ghost use Rattle.page_draw.specs.Draws.{nth_below, nth_back_below, nth_through, nth_back_through};
 
-use crate::nth::{PagesDraw, top_page};
-use crate::refusal::pages_refusal;
+use crate::nth::top_page;
 use addr::Width;
-use answer::DRAW_MEETS_GAP;
-use table::PageSize;
+use answer::Refusal;
+use draw::Draw;
+use item::{Item, check_both, numbers};
 
 // From the front of an exclusive range.
-pub fn next_below(
-    width: Width,
-    start: u64,
-    size: PageSize,
-    end: u64,
-    end_size: PageSize,
-) -> PagesDraw
-    ensures { pages_draw_of result ≡ guarded (nth_below (width_of width) start (bytes_of size) end (bytes_of end_size) 0) }
+#[tactic(auto, using(std::proofs::lemmas::Bool::Decides::nat_tests, crate::proofs::First::next_below, crate::proofs::Settled::nth_below))]
+pub fn next_below(width: Width, start: Item, end: Item) -> Result<Draw, Refusal>
+    ensures { outcome_of draw_of result ≡ guarded (nth_below (width_of width) start.start (bytes_of start.size) end.start (bytes_of end.size) 0) }
 {
-    let refused = pages_refusal(width, start, size, end, end_size);
-    if refused != 0 {
-        return PagesDraw::Refused(refused);
+    check_both(width, start, end)?;
+    let draw = numbers(start, end).next_below();
+    if draw.start == width.half() {
+        return Err(Refusal::DrawMeetsGap);
     }
-    let d = draw::next_below(start, end, size);
-    if d.start == width.half() {
-        return PagesDraw::Refused(DRAW_MEETS_GAP);
-    }
-    PagesDraw::Drawn(d)
+    Ok(draw)
 }
 
 // From the back of an exclusive range.
-pub fn next_back_below(
-    width: Width,
-    start: u64,
-    size: PageSize,
-    end: u64,
-    end_size: PageSize,
-) -> PagesDraw
-    ensures { pages_draw_of result ≡ guarded (nth_back_below (width_of width) start (bytes_of size) end (bytes_of end_size) 0) }
+#[tactic(auto, using(std::proofs::lemmas::Bool::Decides::nat_tests, crate::proofs::First::next_back_below, crate::proofs::Settled::nth_back_below))]
+pub fn next_back_below(width: Width, start: Item, end: Item) -> Result<Draw, Refusal>
+    ensures { outcome_of draw_of result ≡ guarded (nth_back_below (width_of width) start.start (bytes_of start.size) end.start (bytes_of end.size) 0) }
 {
-    let refused = pages_refusal(width, start, size, end, end_size);
-    if refused != 0 {
-        return PagesDraw::Refused(refused);
+    check_both(width, start, end)?;
+    let draw = numbers(start, end).next_back_below();
+    if draw.end == width.first_high() - start.size.bytes() {
+        return Err(Refusal::DrawMeetsGap);
     }
-    let d = draw::next_back_below(start, end, size);
-    if d.end == width.first_high() - size.bytes() {
-        return PagesDraw::Refused(DRAW_MEETS_GAP);
-    }
-    PagesDraw::Drawn(d)
+    Ok(draw)
 }
 
 // From the front of an inclusive range.
-pub fn next_through(
-    width: Width,
-    start: u64,
-    size: PageSize,
-    end: u64,
-    end_size: PageSize,
-) -> PagesDraw
-    ensures { pages_draw_of result ≡ guarded (nth_through (width_of width) start (bytes_of size) end (bytes_of end_size) 0) }
+#[tactic(auto, using(std::proofs::lemmas::Bool::Decides::nat_tests, crate::proofs::First::next_through, crate::proofs::Settled::nth_through))]
+pub fn next_through(width: Width, start: Item, end: Item) -> Result<Draw, Refusal>
+    ensures { outcome_of draw_of result ≡ guarded (nth_through (width_of width) start.start (bytes_of start.size) end.start (bytes_of end.size) 0) }
 {
-    let refused = pages_refusal(width, start, size, end, end_size);
-    if refused != 0 {
-        return PagesDraw::Refused(refused);
+    check_both(width, start, end)?;
+    let draw = numbers(start, end).next_through(top_page(start.size));
+    if draw.start == width.half() {
+        return Err(Refusal::DrawMeetsGap);
     }
-    let d = draw::next_through(start, end, size, top_page(size));
-    if d.start == width.half() {
-        return PagesDraw::Refused(DRAW_MEETS_GAP);
-    }
-    PagesDraw::Drawn(d)
+    Ok(draw)
 }
 
 // From the back of an inclusive range.
-pub fn next_back_through(
-    width: Width,
-    start: u64,
-    size: PageSize,
-    end: u64,
-    end_size: PageSize,
-) -> PagesDraw
-    ensures { pages_draw_of result ≡ guarded (nth_back_through (width_of width) start (bytes_of size) end (bytes_of end_size) 0) }
+#[tactic(auto, using(std::proofs::lemmas::Bool::Decides::nat_tests, crate::proofs::First::next_back_through, crate::proofs::Settled::nth_back_through))]
+pub fn next_back_through(width: Width, start: Item, end: Item) -> Result<Draw, Refusal>
+    ensures { outcome_of draw_of result ≡ guarded (nth_back_through (width_of width) start.start (bytes_of start.size) end.start (bytes_of end.size) 0) }
 {
-    let refused = pages_refusal(width, start, size, end, end_size);
-    if refused != 0 {
-        return PagesDraw::Refused(refused);
+    check_both(width, start, end)?;
+    let draw = numbers(start, end).next_back_through();
+    if draw.end == width.first_high() - start.size.bytes() {
+        return Err(Refusal::DrawMeetsGap);
     }
-    let d = draw::next_back_through(start, end, size);
-    if d.end == width.first_high() - size.bytes() {
-        return PagesDraw::Refused(DRAW_MEETS_GAP);
-    }
-    PagesDraw::Drawn(d)
+    Ok(draw)
 }

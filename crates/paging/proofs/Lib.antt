@@ -4,7 +4,6 @@ pub mod Places
 pub mod OneSegment
 pub mod Unpacking
 pub mod Spanning
-pub mod FourWords
 pub mod Passing
 pub mod ReadBits
 pub mod Remembering

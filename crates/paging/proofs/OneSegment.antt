@@ -9,7 +9,7 @@ use Rattle.mapping.specs.Walk.{Entry, walked_pages}
 use Rattle.laws.specs.Address.{phys}
 use Rattle.laws.specs.Item.{item_refusal, first_refusal}
 use Rattle.paging.specs.Entry.{entry_by}
-use Rattle.paging.specs.Memory.{Segment, place_from, reaching, segments_in, table_at, table_from, table_where, table_words}
+use Rattle.paging.specs.Memory.{Segment, place_from, reaching, table_at, table_from, table_where, table_words}
 use Rattle.paging.specs.Translate.{outside_refusal, root_refusal, image_refusal, root_table}
 use Rattle.paging.specs.Search.{image_pages, pages_from}
 use Rattle.paging.proofs.Fields.{no-mask}
@@ -17,7 +17,7 @@ use Rattle.paging.proofs.Places.{reaching-all}
 
 module _ (image : List ℕ) (base root : ℕ) where
   abbrev whole : List Segment
-  whole = segments_in (base ∷ length image ∷ [])
+  whole = record { base = base; words = length image } ∷ []
 
   -- the same numbers refuse it
   pub image-segment : first_refusal (item_refusal (phys 52) base 0x1000) (root_refusal root (place_from 0 whole root)) ≡ image_refusal image base root

@@ -1,156 +1,98 @@
--- The search as its words go: over pages in two parts, and over pages that are alike.
+-- The search on its way: over pages in two parts, and over pages that are alike.
 use Prim.Native.Nat.{ℕ, ◌+◌, ◌-◌, ◌^◌, ◌≤◌, ◌<◌}
-use mathlib.Core.Path.{◌≡◌, refl, sym, ap, ◌∙◌, subst}
+use mathlib.Core.Path.{◌≡◌, refl, sym, ap, ◌∙◌}
 use mathlib.Core.Bool.{Bool, true, false, cond}
-use mathlib.Core.List.{List}
 use native.Mathlib.Omega.{arith}
 use borrow.Author.Tests.{eq-eqb, eqb-true}
 use lib.Dec.{eqb}
-use lib.ListN.{length, get_or}
-use Rattle.mapping.specs.Pages.{Rights, Reason, reserved, outside, PageState, absent, broken, mapped}
-use Rattle.mapping.specs.Pass.{Progress, unfound, stopped, running, at-page, pass}
+use Rattle.mapping.specs.Pages.{Rights, Reason, PageState, absent, broken, mapped}
+use Rattle.mapping.specs.Pass.{Progress, unfound, stopped, running}
 use Rattle.mapping.proofs.Pass.{pass-inside, pass_on, pass-congr, pass-absent, absent-ends, broken-stops, broken-ends, mapped-begins, mapped-goes-on, mapped-ends, pass-nowhere, stops-before, pass_le}
 use Rattle.paging.specs.Packed.{rights_bits, rights_from}
-use Rattle.paging.specs.Progress.{progress_words, Holds, Goes, GoesOn, accepts, taken, halted, Takes, Halts, Passes}
-use Rattle.paging.proofs.FourWords.{words-length, going-run, going-stopped}
+use Rattle.paging.specs.Progress.{finds_nothing, Holds, GoesOn, Takes, Halts, Passes}
 use Rattle.paging.proofs.RightsBits.{bits-from}
 
--- what the words of a search that goes on stand for
-pub goes : (w : List ℕ) (x : ℕ) → GoesOn w x → (s : Progress) → w ≡ progress_words s → Goes s x
-goes w x g unfound e = tt
-goes w x g (running q c h) e =
-    let k : get_or w 0 0 ≡ 1 = ap (λ (l : List ℕ). get_or l 0 0) e in
-    let r = going-run w x g (λ z. omega arith) in
-    let p : get_or w 1 0 ≡ q = ap (λ (l : List ℕ). get_or l 1 0) e in
-    let n : get_or w 2 0 ≡ c = ap (λ (l : List ℕ). get_or l 2 0) e in
-    (omega arith, omega arith)
-goes w x g (stopped q l reserved) e = (going-stopped w x g).0 (ap (λ (l : List ℕ). get_or l 0 0) e)
-goes w x g (stopped q l outside) e = (going-stopped w x g).1 (ap (λ (l : List ℕ). get_or l 0 0) e)
-
-holds : (s : Progress) (x : ℕ) → Goes s x → Holds s x
+holds : (s : Progress) (x : ℕ) → GoesOn s x → Holds s x
 holds unfound x g = tt
 holds (running q c h) x g = g
 holds (stopped q l r) x g = tt
 
-not_stopped : (s : Progress) (x : ℕ) → Goes s x → (q l : ℕ) (r : Reason) → s ≡ stopped q l r → ⊥
-not_stopped unfound x g q l r e = let o : ◌≡◌ {A = ℕ} 0 1 = cc in omega arith
-not_stopped (running p c h) x g q l r e = let o : ◌≡◌ {A = ℕ} 0 1 = cc in omega arith
+not_stopped : (s : Progress) (x : ℕ) → GoesOn s x → (q l : ℕ) (r : Reason) → s ≡ stopped q l r → ⊥
+not_stopped unfound x g q l r e = cc
+not_stopped (running p c h) x g q l r e = cc
 not_stopped (stopped p k c) x g q l r e = g
 
 -- before any page
-pub passes_none : (f : ℕ → PageState) (a : ℕ) (w : List ℕ) → GoesOn w a → Passes f a a w w a
-passes_none f a w g s e = (s, e, pass-nowhere f a s, holds s a (goes w a g s e))
+pub passes_none : {f : ℕ → PageState} {a : ℕ} {s : Progress} → GoesOn s a → Passes f a a s s a
+passes_none {f} {a} {s} g = record { comes = pass-nowhere f a s; holds = holds s a g }
 
 -- a search that has passed its pages goes on
-pub still-goes : (f : ℕ → PageState) (a m : ℕ) (w v : List ℕ) → GoesOn w a → Passes f a m w v m → GoesOn v m
-still-goes f a m w v (s, e, g) p = go (p s e)
+pub still-goes : {f : ℕ → PageState} {a m : ℕ} {s t : Progress} → GoesOn s a → Passes f a m s t m → GoesOn t m
+still-goes {f} {a} {m} {s} {t} g p = go t p
   where
-    go : (t : Progress) × (v ≡ progress_words t) × (pass f a m s ≡ at-page t m) × Holds t m → GoesOn v m
-    go (unfound, k, h, o) = (unfound, k, tt)
-    go (running q c r, k, h, o) = (running q c r, k, o)
-    go (stopped q l r, k, h, o) = absurd (omega (arith, stops-before f a m s q l r m (not_stopped s a g) h))
-
--- its words are as many as before
-pub passes-length : (f : ℕ → PageState) (a e : ℕ) (w v : List ℕ) (y : ℕ) → GoesOn w a → Passes f a e w v y → length v ≡ length w
-passes-length f a e w v y (s, k, g) p = let (t, n, l, o) = p s k in ap length n ∙ words-length t ∙ sym (words-length s) ∙ sym (ap length k)
+    go : (u : Progress) → Passes f a m s u m → GoesOn u m
+    go unfound p = tt
+    go (running q c h) p = p.holds
+    go (stopped q l r) p = absurd (omega (arith, stops-before f a m s q l r m (not_stopped s a g) p.comes))
 
 -- it comes no further than the end
-pub passes-le : (f : ℕ → PageState) (a e : ℕ) (w v : List ℕ) (y : ℕ) → a ≤ e → GoesOn w a → Passes f a e w v y → y ≤ e
-passes-le f a e w v y i (s, k, g) p = let (t, n, l, o) = p s k in pass_le f a e s t y i l
-
-pub takes-length : (x g : ℕ) (h : Rights) (w v : List ℕ) (r : Bool) → GoesOn w x → Takes x g (rights_bits h) w v r → length v ≡ length w
-takes-length x g h w v r (s, e, o) k = ap length (k s h e refl).0 ∙ words-length (taken s x g h) ∙ sym (words-length s) ∙ sym (ap length e)
-
-pub reserved-length : (x l : ℕ) (w v : List ℕ) → GoesOn w x → Halts 2 x l w v → length v ≡ length w
-reserved-length x l w v (s, e, o) k = ap length ((k s e).0 refl) ∙ words-length (halted s (stopped x l reserved)) ∙ sym (words-length s) ∙ sym (ap length e)
-
-pub outside-length : (x l : ℕ) (w v : List ℕ) → GoesOn w x → Halts 3 x l w v → length v ≡ length w
-outside-length x l w v (s, e, o) k = ap length ((k s e).1 refl) ∙ words-length (halted s (stopped x l outside)) ∙ sym (words-length s) ∙ sym (ap length e)
+pub passes-le : {f : ℕ → PageState} {a e : ℕ} {s t : Progress} {y : ℕ} → a ≤ e → Passes f a e s t y → y ≤ e
+passes-le {f} {a} {e} {s} {t} {y} i p = pass_le f a e s t y i p.comes
 
 -- in two parts that meet at m
-module _ (f : ℕ → PageState) (a x m : ℕ) (w v u : List ℕ) (i : a ≤ x) (j : x ≤ m) (p : Passes f a x w v x) where
-  pub passes_then : (y : ℕ) → Passes f x m v u y → Passes f a m w u y
-  passes_then y q s e =
-      let (t, k, h, o) = p s e in
-      let (r, n, l, z) = q t k in
-      (r, n, pass_on f a x m i j s t x h (omega arith) ∙ l, z)
+pub passes_then : {f : ℕ → PageState} {a x m : ℕ} {s t u : Progress} {y : ℕ} → a ≤ x → x ≤ m → Passes f a x s t x → Passes f x m t u y → Passes f a m s u y
+passes_then {f} {a} {x} {m} {s} {t} i j p q = record { comes = pass_on f a x m i j s t x p.comes (omega arith) ∙ q.comes; holds = q.holds }
 
-  pub passes_on : Passes f x m v u m → Passes f a m w u m
-  passes_on = passes_then m
-
-  pub passes-in : (y e : ℕ) → m ≤ e → y < m → Passes f x m v u y → Passes f a e w u y
-  passes-in y e b l q s z = let (r, n, k, o) = passes_then y q s z in (r, n, pass-inside f a m e (omega arith) b s r y k l, o)
+pub passes-in : {f : ℕ → PageState} {a x m : ℕ} {s t u : Progress} {y e : ℕ} → a ≤ x → x ≤ m → m ≤ e → y < m → Passes f a x s t x → Passes f x m t u y → Passes f a e s u y
+passes-in {f} {a} {x} {m} {s} {t} {u} {y} {e} i j b l p q = record { comes = pass-inside f a m e (omega arith) b s u y (passes_then i j p q).comes l; holds = q.holds }
 
 -- only the pages gone over count
-pub passes-congr : (f g : ℕ → PageState) (a e : ℕ) (w v : List ℕ) (y : ℕ) → a ≤ e → ((x : ℕ) → a ≤ x → x < e → f x ≡ g x) → Passes g a e w v y → Passes f a e w v y
-passes-congr f g a e w v y i h p s z = let (t, k, l, o) = p s z in (t, k, pass-congr f g a e s i h ∙ l, o)
+pub passes-congr : {f g : ℕ → PageState} {a e : ℕ} {s t : Progress} {y : ℕ} → a ≤ e → ((x : ℕ) → a ≤ x → x < e → f x ≡ g x) → Passes g a e s t y → Passes f a e s t y
+passes-congr {f} {g} {a} {e} {s} i h p = record { comes = pass-congr f g a e s i h ∙ p.comes; holds = p.holds }
 
 -- over pages that are alike, from a up to m
-module _ (f : ℕ → PageState) (a m : ℕ) (w : List ℕ) (i : a < m) (g : GoesOn w a) where
+module _ {f : ℕ → PageState} {a m : ℕ} (i : a < m) where
   -- absent, with nothing found yet, or at the end of a run
-  pub passes-absent : ((x : ℕ) → a ≤ x → x < m → f x ≡ absent) → get_or w 0 0 ≡ 0 → Passes f a m w w m
-  passes-absent h z s e = go s e
-    where
-      go : (s : Progress) → w ≡ progress_words s → (t : Progress) × (w ≡ progress_words t) × (pass f a m s ≡ at-page t m) × Holds t m
-      go unfound k = (unfound, k, pass-absent f a m i h, tt)
-      go (running q c r) k = absurd (let o : get_or w 0 0 ≡ 1 = ap (λ (l : List ℕ). get_or l 0 0) k in omega arith)
-      go (stopped q l r) k = absurd (goes w a g (stopped q l r) k)
+  pub passes-absent : (s : Progress) → ((x : ℕ) → a ≤ x → x < m → f x ≡ absent) → finds_nothing s ≡ true → Passes f a m s s m
+  passes-absent unfound h z = record { comes = pass-absent f a m i h; holds = tt }
+  passes-absent (running q c r) h z = cc
+  passes-absent (stopped q l r) h z = cc
 
-  pub ends-absent : f a ≡ absent → (get_or w 0 0 ≡ 0 → ⊥) → Passes f a m w w a
-  ends-absent h n s e = go s e
-    where
-      go : (s : Progress) → w ≡ progress_words s → (t : Progress) × (w ≡ progress_words t) × (pass f a m s ≡ at-page t a) × Holds t a
-      go unfound k = absurd (n (ap (λ (l : List ℕ). get_or l 0 0) k))
-      go (running q c r) k = (running q c r, k, absent-ends f a m i q c r h, goes w a g (running q c r) k)
-      go (stopped q l r) k = absurd (goes w a g (stopped q l r) k)
+  pub ends-absent : (s : Progress) → GoesOn s a → f a ≡ absent → finds_nothing s ≡ false → Passes f a m s s a
+  ends-absent unfound g h z = cc
+  ends-absent (running q c r) g h z = record { comes = absent-ends f a m i q c r h; holds = g }
+  ends-absent (stopped q l r) g h z = absurd g
 
   -- broken
-  stops-broken : (l : ℕ) (r : Reason) → f a ≡ broken l r → (v : List ℕ) → ((s : Progress) → w ≡ progress_words s → v ≡ progress_words (halted s (stopped a l r))) → Passes f a m w v a
-  stops-broken l r h v k s e = go s e
-    where
-      go : (s : Progress) → w ≡ progress_words s → (t : Progress) × (v ≡ progress_words t) × (pass f a m s ≡ at-page t a) × Holds t a
-      go unfound z = (stopped a l r, k unfound z, broken-stops f a m i l r h, tt)
-      go (running q c d) z = (running q c d, k (running q c d) z, broken-ends f a m i l r h q c d, goes w a g (running q c d) z)
-      go (stopped q n d) z = absurd (goes w a g (stopped q n d) z)
-
-  pub stops-reserved : (l : ℕ) → f a ≡ broken l reserved → (v : List ℕ) → Halts 2 a l w v → Passes f a m w v a
-  stops-reserved l h v k = stops-broken l reserved h v (λ s e. (k s e).0 refl)
-
-  pub stops-outside : (l : ℕ) → f a ≡ broken l outside → (v : List ℕ) → Halts 3 a l w v → Passes f a m w v a
-  stops-outside l h v k = stops-broken l outside h v (λ s e. (k s e).1 refl)
+  pub stops-broken : (s : Progress) → GoesOn s a → {l : ℕ} {r : Reason} {t : Progress} → f a ≡ broken l r → Halts a l r s t → Passes f a m s t a
+  stops-broken unfound g {l} {r} h k = rw k record { comes = broken-stops f a m i l r h; holds = tt }
+  stops-broken (running q c d) g {l} {r} h k = rw k record { comes = broken-ends f a m i l r h q c d; holds = g }
+  stops-broken (stopped q n d) g h k = absurd g
 
   -- mapped from a frame on
-  module _ (n : ℕ) (d : Rights) (h : (x : ℕ) → a ≤ x → x < m → f x ≡ mapped (n + (x - a)) d) (b : n < 2 ^ 40) (v : List ℕ) where
-    pub passes-mapped : Takes a n (rights_bits d) w v true → Passes f a m w v m
-    passes-mapped k s e = go s e (k s d e refl)
+  module _ {n : ℕ} {d : Rights} (h : (x : ℕ) → a ≤ x → x < m → f x ≡ mapped (n + (x - a)) d) where
+    due : (c : ℕ) (r : Rights) (q : ℕ) → true ≡ cond (eqb (rights_bits r) (rights_bits d)) (eqb (c + (a - q)) n) false → (r ≡ d) × (c + (a - q) ≡ n)
+    due c r q z = by (eqb (rights_bits r) (rights_bits d)) refl z
       where
-        due : (c : ℕ) (r : Rights) (q : ℕ) → true ≡ cond (eqb (rights_bits r) (rights_bits d)) (eqb (c + (a - q)) n) false → (r ≡ d) × (c + (a - q) ≡ n)
-        due c r q z = by (eqb (rights_bits r) (rights_bits d)) refl z
-          where
-            by : (t : Bool) → eqb (rights_bits r) (rights_bits d) ≡ t → true ≡ cond t (eqb (c + (a - q)) n) false → (r ≡ d) × (c + (a - q) ≡ n)
-            by true y o = (sym (bits-from r) ∙ ap rights_from (eqb-true (rights_bits r) (rights_bits d) y) ∙ bits-from d, eqb-true (c + (a - q)) n (sym o))
-            by false y o = absurd (let u : ◌≡◌ {A = ℕ} 0 1 = cc in omega arith)
+        by : (t : Bool) → eqb (rights_bits r) (rights_bits d) ≡ t → true ≡ cond t (eqb (c + (a - q)) n) false → (r ≡ d) × (c + (a - q) ≡ n)
+        by true y o = (sym (bits-from r) ∙ ap rights_from (eqb-true (rights_bits r) (rights_bits d) y) ∙ bits-from d, eqb-true (c + (a - q)) n (sym o))
+        by false y o = cc
 
-        go : (s : Progress) → w ≡ progress_words s → (v ≡ progress_words (taken s a n d)) × (true ≡ accepts s a n d) → (t : Progress) × (v ≡ progress_words t) × (pass f a m s ≡ at-page t m) × Holds t m
-        go unfound z y = (running a n d, y.0, mapped-begins f a m i n d h, (omega arith, b))
-        go (running q c r) z y =
-            let o = goes w a g (running q c r) z in
-            let (same, frame) = due c r q y.1 in
-            (running q c r, y.0, subst (λ (j : Rights). pass f a m (running q c j) ≡ at-page (running q c j) m) (sym same) (mapped-goes-on f a m i n d h q c o.0 frame), (omega arith, o.1))
-        go (stopped q l r) z y = absurd (goes w a g (stopped q l r) z)
+    pub passes-mapped : (s : Progress) → GoesOn s a → n < 2 ^ 40 → {t : Progress} → Takes a n d s t true → Passes f a m s t m
+    passes-mapped unfound g b k = rw k.found record { comes = mapped-begins f a m i n d h; holds = (omega arith, b) }
+    passes-mapped (running q c r) g b k =
+        let (same, frame) = due c r q k.answer in
+        rw (k.found, same) record { comes = mapped-goes-on f a m i n d h q c g.0 frame; holds = (omega (arith, g.0), g.1) }
+    passes-mapped (stopped q l r) g b k = absurd g
 
-    pub ends-mapped : Takes a n (rights_bits d) w v false → Passes f a m w v a
-    ends-mapped k s e = go s e (k s d e refl)
-      where
-        not-due : (c : ℕ) (r : Rights) (q : ℕ) → false ≡ cond (eqb (rights_bits r) (rights_bits d)) (eqb (c + (a - q)) n) false → d ≡ r → c + (a - q) ≡ n → ⊥
-        not-due c r q z y o =
-            let u : eqb (rights_bits r) (rights_bits d) ≡ true = eq-eqb (rights_bits r) (rights_bits d) (ap rights_bits (sym y)) in
-            let p : eqb (c + (a - q)) n ≡ true = eq-eqb (c + (a - q)) n o in
-            let t : false ≡ true = rw (u, p) at z in
-            let l : ◌≡◌ {A = ℕ} 0 1 = cc in
-            omega arith
+    not-due : (c : ℕ) (r : Rights) (q : ℕ) → false ≡ cond (eqb (rights_bits r) (rights_bits d)) (eqb (c + (a - q)) n) false → d ≡ r → c + (a - q) ≡ n → ⊥
+    not-due c r q z y o =
+        let u : eqb (rights_bits r) (rights_bits d) ≡ true = eq-eqb (rights_bits r) (rights_bits d) (ap rights_bits (sym y)) in
+        let p : eqb (c + (a - q)) n ≡ true = eq-eqb (c + (a - q)) n o in
+        let t : false ≡ true = rw (u, p) at z in
+        cc
 
-        go : (s : Progress) → w ≡ progress_words s → (v ≡ progress_words (taken s a n d)) × (false ≡ accepts s a n d) → (t : Progress) × (v ≡ progress_words t) × (pass f a m s ≡ at-page t a) × Holds t a
-        go unfound z y = absurd (let o : false ≡ true = y.1 in let u : ◌≡◌ {A = ℕ} 0 1 = cc in omega arith)
-        go (running q c r) z y = (running q c r, y.0, mapped-ends f a m i n d h q c r (not-due c r q y.1), goes w a g (running q c r) z)
-        go (stopped q l r) z y = absurd (goes w a g (stopped q l r) z)
+    pub ends-mapped : (s : Progress) → GoesOn s a → {t : Progress} → Takes a n d s t false → Passes f a m s t a
+    ends-mapped unfound g k = let e = k.answer in cc
+    ends-mapped (running q c r) g k = rw k.found record { comes = mapped-ends f a m i n d h q c r (not-due c r q k.answer); holds = g }
+    ends-mapped (stopped q l r) g k = absurd g

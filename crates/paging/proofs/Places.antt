@@ -1,5 +1,5 @@
 -- A part that is the whole, and the places of tables in a list of segments.
-use Prim.Native.Nat.{ℕ, suc, ◌+◌, ◌-◌, ◌<◌, ◌≤◌, min}
+use Prim.Native.Nat.{ℕ, ◌+◌, ◌-◌, ◌<◌, ◌≤◌, min}
 use mathlib.Core.Path.{◌≡◌, refl, ap, ◌∙◌}
 use mathlib.Core.Bool.{Bool, true, false, cond, ◌&&◌}
 use mathlib.Core.List.{List, [], ◌∷◌}
@@ -7,18 +7,14 @@ use mathlib.Core.Option.{some}
 use native.Mathlib.Omega.{arith}
 use borrow.Author.Tests.{leb-true}
 use lib.Dec.{leb}
-use lib.ListN.{length, get_or, take, drop, length-take, length-drop}
-use lib.Seq.{take_all, drop-cons, get_or-take, get_or-drop}
-use Rattle.paging.specs.Memory.{Segment, word_index, inside_of, place_from, table_from, segments_in, total, reaching}
+use lib.ListN.{length, get_or, take, drop}
+use lib.Seq.{take_all, get_or-take, get_or-drop}
+use Rattle.paging.specs.Memory.{Segment, word_index, inside_of, place_from, table_from, total, reaching}
 
 pub whole_part : (words : List ℕ) → take (length words - 0) (drop 0 words) ≡ words
 whole_part words = take_all (length words - 0) words (omega arith)
 
--- a table at a place has 512 words
-pub table-length : (words : List ℕ) (p : ℕ) → p + 512 ≤ length words → length (table_from words p) ≡ 512
-table-length words p h = length-take 512 (drop p words) ∙ omega (arith, length-drop p words)
-
--- the words of it
+-- the words of a table at a place
 pub table-word : (words : List ℕ) (p i : ℕ) → i < 512 → get_or (table_from words p) i 0 ≡ get_or words (p + i) 0
 table-word words p i h = get_or-take 512 (drop p words) i 0 h ∙ get_or-drop p words i 0
 
@@ -35,26 +31,6 @@ place_inside (s ∷ segments) first a p e = go (leb s.base a) (leb (word_index s
     go true true h k ih = let z : first + word_index s.base a ≡ p = cc in omega (arith, leb-true (word_index s.base a + 512) s.words h)
     go true false h k ih = omega (arith, ih k)
     go false c h k ih = omega (arith, ih k)
-
--- a list of segments from a word on: the next one, or none where fewer than two words are left
-pub next-segment : (l : List ℕ) (i : ℕ) → i + 1 < length l
-    → segments_in (drop i l) ≡ record { base = get_or l i 0; words = get_or l (i + 1) 0 } ∷ segments_in (drop (i + 2) l)
-next-segment l i h =
-    let first : suc i ≡ i + 1 = omega arith in
-    let second : suc (i + 1) ≡ i + 2 = omega arith in
-    let one : drop (suc i) l ≡ drop (i + 1) l = ap (λ (k : ℕ). drop k l) first in
-    let two : drop (suc (i + 1)) l ≡ drop (i + 2) l = ap (λ (k : ℕ). drop k l) second in
-    let rest : drop (i + 1) l ≡ get_or l (i + 1) 0 ∷ drop (i + 2) l = drop-cons l (i + 1) 0 h ∙ ap (λ (m : List ℕ). get_or l (i + 1) 0 ∷ m) two in
-    let all : drop i l ≡ get_or l i 0 ∷ get_or l (i + 1) 0 ∷ drop (i + 2) l = drop-cons l i 0 (omega arith) ∙ ap (λ (m : List ℕ). get_or l i 0 ∷ m) (one ∙ rest) in
-    ap segments_in all
-
-pub no-segment : (l : List ℕ) (i : ℕ) → length l ≤ i + 1 → segments_in (drop i l) ≡ []
-no-segment l i h = go (drop i l) (omega (arith, length-drop i l))
-  where
-    go : (m : List ℕ) → length m ≤ 1 → segments_in m ≡ []
-    go [] k = refl
-    go (b ∷ []) k = refl
-    go (b ∷ n ∷ m) k = absurd (omega arith)
 
 -- the place by the first segment: in it, or in those behind it
 module _ (first : ℕ) (s : Segment) (segments : List Segment) (a : ℕ) where

@@ -2,20 +2,19 @@
 use Prim.Native.Nat.{ℕ, zero, suc, ◌+◌, ◌-◌, ◌*◌, ◌/◌, ◌%◌, ◌^◌, ◌≤◌, ◌<◌}
 use mathlib.Core.Path.{◌≡◌, refl, sym, ap, subst, ◌∙◌}
 use mathlib.Core.Bool.{Bool, true, false, cond, ◌&&◌}
-use mathlib.Core.List.{List, [], ◌∷◌, ◌++◌}
+use mathlib.Core.List.{List}
 use mathlib.Core.Logic.{◌⊎◌, inl, inr, ⊎_elim}
 use mathlib.Core.Option.{Option}
 use native.Mathlib.Decide.{ℕ_discrete, dec_lt}
 use native.Mathlib.Nat.{mod-lt, mod-eq_of_lt, div-eq_of_lt}
-use native.Mathlib.Numerals.{add-one}
 use native.Mathlib.Omega.{arith}
 use borrow.Author.Tests.{eqb-true, ltb-true}
-use lib.Bits.{bit_and, bit_or, and_mask, or_lt, or_shr, or_mod}
+use lib.Bits.{bit_or, or_lt, or_shr, or_mod}
 use lib.Dec.{lit<, eqb, ltb}
 use lib.ListN.{length, length-set, get_or, take, drop, replicate, length-replicate, get_or-replicate, replicate-append-replicate}
 use lib.ListN as list
-use lib.Pow.{pow_pos, pow-lt, pow-add, shl-shr, shl_exact}
-use lib.Seq.{get_or-set_same, get_or-set_other, take_all, take-suc, take-suc-set}
+use lib.Pow.{pow-lt, pow-add, shl-shr, shl_exact}
+use lib.Seq.{get_or-set_same, get_or-set_other, take_all}
 use Rattle.laws.proofs.Cases.{by_cases}
 use Rattle.mapping.specs.Walk.{Entry, HoldsNothing}
 use Rattle.paging.specs.Entry.{set}
@@ -109,48 +108,9 @@ marking-length bytes p n = go (has_byte bytes p)
     go true = length-set bytes (p / 512) (bit_or (get_or bytes (p / 512) 0) (2 ^ (n % 8)))
     go false = refl
 
--- forgotten bytes say nothing
-pub forgotten-true : (entry : ℕ → ℕ → Entry) (memory : ℕ → Option (List ℕ)) (words : List ℕ) (k : ℕ) → TrueOf entry memory words (replicate k 0)
-forgotten-true entry memory words k i n l s =
-    let m : i < k = rw length-replicate at l in
-    let z : false ≡ true = rw (get_or-replicate {A = ℕ} k i 0 0 m, div-eq_of_lt (pow_pos n)) at s in
-    absurd (let o : ◌≡◌ {A = ℕ} 0 1 = cc in omega arith)
-
--- as the code reads a bit
-pub read-bit : (bytes : List ℕ) (p n : ℕ) → has_byte bytes p ≡ true → eqb (bit_and (get_or bytes (p / 512) 0 / 2 ^ (n % 8)) 1) 1 ≡ marked bytes p n
-read-bit bytes p n e = rw (e, and_mask (get_or bytes (p / 512) 0 / 2 ^ (n % 8)) 1)
-
-pub no-bit : (bytes : List ℕ) (p n : ℕ) → has_byte bytes p ≡ false → false ≡ marked bytes p n
-no-bit bytes p n e = rw e
-
--- as it sets one
+-- as the code sets one
 one_shifted : (n : ℕ) → 1 * 2 ^ (n % 8) % 2 ^ 64 ≡ 2 ^ (n % 8)
 one_shifted n = shl_exact 1 (n % 8) 64 (lit< tt) (omega arith) ∙ omega arith
 
 pub byte_fits : (b n : ℕ) → b < 256 → bit_or b (1 * 2 ^ (n % 8) % 2 ^ 64) < 256
 byte_fits b n h = rw (one_shifted n) (or_lt 8 b (2 ^ (n % 8)) h (pow-lt (mod-lt n (lit< tt))))
-
-pub write-bit : (bytes : List ℕ) (p n : ℕ) → has_byte bytes p ≡ true
-    → list.set bytes (p / 512) (bit_or (get_or bytes (p / 512) 0) (1 * 2 ^ (n % 8) % 2 ^ 64)) ≡ marking bytes p n
-write-bit bytes p n e = rw (e, one_shifted n)
-
-pub write-none : (bytes : List ℕ) (p n : ℕ) → has_byte bytes p ≡ false → bytes ≡ marking bytes p n
-write-none bytes p n e = rw e
-
--- as it clears the bytes, one after the other
-pub one-cleared : (l : List ℕ) (i : ℕ) → i < length l → take i l ≡ replicate i 0 → take (i + 1) (list.set l i 0) ≡ replicate (i + 1) 0
-one-cleared l i h e =
-    ap (λ (k : ℕ). take k (list.set l i 0)) (add-one i)
-    ∙ take-suc-set l i 0 h
-    ∙ ap (λ (m : List ℕ). m ++ (0 ∷ [])) e
-    ∙ replicate-append-replicate i 1 0
-
-pub all-cleared : (l : List ℕ) (i n : ℕ) → i ≡ n → length l ≡ n → take i l ≡ replicate i 0 → l ≡ replicate n 0
-all-cleared l i n k h e = sym (take_all n l (omega arith)) ∙ rw k at e
-
-pub one-clear : (l : List ℕ) (i : ℕ) → i < length l → get_or l i 0 ≡ 0 → take i l ≡ replicate i 0 → take (i + 1) l ≡ replicate (i + 1) 0
-one-clear l i h z e =
-    ap (λ (k : ℕ). take k l) (add-one i) ∙ take-suc l i 0 h
-    ∙ ap (λ (x : ℕ). take i l ++ (x ∷ [])) z
-    ∙ ap (λ (m : List ℕ). m ++ (0 ∷ [])) e
-    ∙ replicate-append-replicate i 1 0

@@ -4,7 +4,7 @@ use mathlib.Core.Path.{◌≡◌, sym, ap, ◌∙◌}
 use native.Mathlib.Omega.{arith}
 use native.Mathlib.Nat.{lt-div-mul-add, div-eq_of_lt-le, div-mul-le_self, suc-mul, le_trans}
 use native.Mathlib.Numerals.{add-one}
-use lib.Pow.{pow_pos, pow-add, shl-shr}
+use lib.Pow.{pow_pos, pow-add}
 use Rattle.mapping.specs.Walk.{span_pages}
 use Rattle.paging.specs.Span.{after}
 
@@ -49,6 +49,3 @@ after-top (suc (suc (suc (suc (suc (suc n)))))) x h b = absurd (omega arith)
 -- a table spans 512 times what its entries do
 pub wide : (n : ℕ) → span_pages n * 512 ≡ span_pages (n + 1)
 wide n = let e : 9 * n + 9 ≡ 9 * (n + 1) = omega arith in sym (pow-add 2 (9 * n) 9) ∙ ap (λ (k : ℕ). 2 ^ k) e
-
-pub narrow : (n : ℕ) → span_pages (n + 1) / 2 ^ 9 ≡ span_pages n
-narrow n = ap (λ (k : ℕ). k / 2 ^ 9) (sym (wide n)) ∙ shl-shr (span_pages n) 9

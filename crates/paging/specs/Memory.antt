@@ -41,12 +41,6 @@ abbrev pub table_words : Option (List ℕ) → List ℕ
 table_words none = []
 table_words (some t) = t
 
--- a list of segments as the code has it: base and length of each, one after the other
-abbrev pub segments_in : List ℕ → List Segment
-segments_in [] = []
-segments_in (b ∷ []) = []
-segments_in (b ∷ n ∷ segments) = record { base = b; words = n } ∷ segments_in segments
-
 -- how many words they have
 abbrev pub total : List Segment → ℕ
 total [] = 0

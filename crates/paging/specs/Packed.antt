@@ -1,4 +1,5 @@
--- What the walk says of a page as one number, so that it travels in a register: two bits for the kind, three for the level, three for the rights, then the frame.
+-- Rights as bits; and what the walk says of a page as one number: two bits for the kind, three for the level, three for the rights, then the frame. No code has the number
+-- now; that everything is had back from it is a law of its own (proofs/Unpacking).
 use Rattle.std.specs.Prelude.{ℕ, ◌+◌, ◌*◌, ◌^◌, ◌≤◌, ◌<◌, Bool, true, false, not}
 use Rattle.mapping.specs.Pages.{Rights, rights, reserved, outside}
 use Rattle.mapping.specs.Walk.{Walked, absent, broken, mapped}

@@ -1,9 +1,9 @@
--- What each case of an answer stands for: the value, or the paper's number of a refusal.
-use Rattle.std.specs.Prelude.{ℕ}
-use Rattle.answer.specs.Outcome.{Outcome, gives, refuses}
-use Rattle.phys.specs.declared.phys_addr.PhysAnswer.{PhysAnswer}
-use Rattle.phys.specs.declared.phys_addr.PhysAnswer.TheVariants as phys
+-- What an answer with a physical address stands for.
+use Rattle.std.specs.Prelude.{ℕ, Result}
+use Rattle.answer.specs.Outcome.{Outcome}
+use Rattle.answer.specs.Answers.{outcome_of}
+use Rattle.answer.specs.declared.refusal.Refusal.{Refusal}
+use Rattle.phys.specs.declared.phys_addr.PhysAddr.{PhysAddr}
 
-abbrev pub phys_of : PhysAnswer → Outcome ℕ
-phys_of (phys.Addr a) = gives a.0
-phys_of (phys.Refused k) = refuses k
+abbrev pub phys_of : Result PhysAddr Refusal → Outcome ℕ
+phys_of = outcome_of (λ a. a.0)

@@ -6,4 +6,4 @@
 
 mod phys_addr;
 
-pub use phys_addr::{PHYS_SIZE, PhysAddr, PhysAnswer};
+pub use phys_addr::{PHYS_SIZE, PhysAddr, Physical};

@@ -1,92 +1,81 @@
-// A line of the list: hexadecimal numbers, with a space between them.
-ghost use Rattle.std.specs.Prelude.{◌≤◌};
+// A line of the list: hexadecimal numbers, with a space between them. They are an operation, its arguments, and
+// what it answered: the status, and the words if that is 0.
+use crate::question::{Question, arguments, words};
+use arrayvec::ArrayVec;
+use status::Status;
 
-// As many numbers as a line can have.
-pub(crate) const MOST_FIELDS: usize = 16;
+// More numbers than any answer has, so a line of so many agrees with none.
+const MOST_NUMBERS: usize = 16;
 
-// The numbers so far, the one being read, and whether all was as it should be.
 #[derive(Drop)]
 pub(crate) struct Line {
-    pub(crate) fields: [u64; MOST_FIELDS],
-    pub(crate) count: usize,
-    value: u64,
-    pub(crate) good: bool,
+    // The numbers that have ended.
+    numbers: ArrayVec<u64, MOST_NUMBERS>,
+    // The one being read; None once the line has what is no number.
+    number: Option<u64>,
 }
 
-// The value of a digit; 16 for another byte.
-fn digit(byte: u8) -> u64
-    ensures { result ≤ 16 }
-{
-    if byte < b'0' {
-        return 16;
-    }
-    if byte <= b'9' {
-        return (byte - b'0') as u64;
-    }
-    if byte < b'a' {
-        return 16;
-    }
-    if byte <= b'f' {
-        return (byte - b'a') as u64 + 10;
-    }
-    16
+// The number with one digit more. Digits are lower case.
+fn with_digit(number: u64, byte: u8) -> Option<u64> {
+    let digit = match byte {
+        b'0'..=b'9' => byte - b'0',
+        b'a'..=b'f' => byte - b'a' + 10,
+        _ => return None,
+    };
+    number.checked_mul(16)?.checked_add(u64::from(digit))
 }
 
 impl Line {
     pub(crate) fn new() -> Line {
         Line {
-            fields: [0; MOST_FIELDS],
-            count: 0,
-            value: 0,
-            good: true,
+            numbers: ArrayVec::new(),
+            number: Some(0),
         }
     }
 
-    // The line is not as it should be.
-    fn spoilt(self) -> Line {
-        let fields = self.fields;
-        Line {
-            fields,
-            count: self.count,
-            value: 0,
-            good: false,
-        }
+    // Whether no number has ended.
+    pub(crate) fn is_empty(&self) -> bool {
+        self.numbers.is_empty()
     }
 
-    // The number being read is complete.
-    pub(crate) fn pushed(self) -> Line {
-        let count = self.count;
-        if MOST_FIELDS <= count {
-            return self.spoilt();
-        }
-        let mut fields = self.fields;
-        fields[count] = self.value;
-        Line {
-            fields,
-            count: count + 1,
-            value: 0,
-            good: self.good,
-        }
-    }
-
-    // A further byte of the line: a digit of the number being read, or the space after it.
-    pub(crate) fn taken(self, byte: u8) -> Line {
+    // A further byte of the line: a digit of the number being read, or the space behind it.
+    pub(crate) fn read(&mut self, byte: u8) {
         if byte == b' ' {
-            return self.pushed();
-        }
-        let d = digit(byte);
-        if 15 < d {
-            return self.spoilt();
-        }
-        if 0xfff_ffff_ffff_ffff < self.value {
-            return self.spoilt();
-        }
-        let fields = self.fields;
-        Line {
-            fields,
-            count: self.count,
-            value: self.value * 16 + d,
-            good: self.good,
+            self.end_number();
+        } else {
+            self.number = self.number.and_then(|number| with_digit(number, byte));
         }
     }
+
+    // The number being read has ended. What is no number counts as one; a number for which there is no room does not.
+    fn end_number(&mut self) {
+        let _ = self.numbers.try_push(self.number.unwrap_or(0));
+        self.number = self.number.and(Some(0));
+    }
+
+    // Whether the answer that the line records is the one that the call gives.
+    pub(crate) fn agrees(mut self) -> bool {
+        self.end_number();
+        self.number.is_some() && same_answer(&self.numbers).unwrap_or(false)
+    }
+}
+
+// The same of the numbers of a line; None if they are too few.
+fn same_answer(numbers: &[u64]) -> Option<bool> {
+    let (operation, rest) = numbers.split_first()?;
+    let (arguments, answer) = rest.split_at_checked(arguments(*operation))?;
+    let (status, recorded) = answer.split_first()?;
+    let question = Question {
+        operation: *operation,
+        arguments,
+    };
+    let mut out = [0u64; 8];
+    let given = question.ask(&mut out);
+    // A call that does not answer has no words.
+    let count = if given == Status::Answered as u8 {
+        words(*operation)
+    } else {
+        0
+    };
+    Some(u64::from(given) == *status && &out[..count] == recorded)
 }

@@ -6,123 +6,93 @@ mod line;
 mod question;
 
 use crate::line::Line;
-use crate::question::agrees;
-use std::io;
-use std::io::{Read as _, Stdin};
+use std::io::Read;
+use std::{io, mem};
 
-// The line being read, how many were read, how many of them differ, and the first that does.
+// The most bytes of a read. They lie on the stack: what reads lines for us would need memory, and trust in what gives it.
+const BUFFER_BYTES: usize = 65536;
+
+// How many lines were read, how many of them differ, and the first that does. The counters stay at their top.
+#[derive(Clone, Copy, Default)]
+struct Tally {
+    lines: u64,
+    differ: u64,
+    first: Option<u64>,
+}
+
+impl Tally {
+    // Counts a line, which agrees or differs.
+    fn count(&mut self, agrees: bool) {
+        self.lines = self.lines.saturating_add(1);
+        if !agrees {
+            self.differ = self.differ.saturating_add(1);
+            self.first = self.first.or(Some(self.lines));
+        }
+    }
+}
+
+// The line being read, and what the lines before it gave.
 #[derive(Drop)]
 struct Replay {
     line: Line,
-    lines: u64,
-    differ: u64,
-    first: u64,
+    tally: Tally,
 }
 
-// A counter that stays at its top.
-fn more(n: u64) -> u64 {
-    if n < u64::MAX { n + 1 } else { n }
-}
-
-// At the end of a line.
-fn judged(r: Replay) -> Replay {
-    let line = r.line.pushed();
-    let lines = more(r.lines);
-    if agrees(line) {
-        return Replay {
+impl Replay {
+    fn new() -> Replay {
+        Replay {
             line: Line::new(),
-            lines,
-            differ: r.differ,
-            first: r.first,
-        };
+            tally: Tally::default(),
+        }
     }
-    Replay {
-        line: Line::new(),
-        lines,
-        differ: more(r.differ),
-        first: if r.differ == 0 { lines } else { r.first },
+
+    // Goes on with further bytes of the input.
+    fn read(&mut self, bytes: &[u8]) {
+        for byte in bytes {
+            if *byte == b'\n' {
+                self.end_line();
+            } else {
+                self.line.read(*byte);
+            }
+        }
+    }
+
+    fn end_line(&mut self) {
+        let line = mem::replace(&mut self.line, Line::new());
+        self.tally.count(line.agrees());
+    }
+
+    // A last line without an end counts too, once a number of it has ended.
+    fn end(mut self) -> Tally {
+        if !self.line.is_empty() {
+            self.end_line();
+        }
+        self.tally
     }
 }
 
-fn taken(r: Replay, byte: u8) -> Replay {
-    if byte == b'\n' {
-        return judged(r);
-    }
-    let line = r.line.taken(byte);
-    Replay {
-        line,
-        lines: r.lines,
-        differ: r.differ,
-        first: r.first,
-    }
-}
-
-fn fed(r: Replay, bytes: &[u8]) -> Replay {
-    let mut now = r;
-    let mut i = 0;
-    while i < bytes.len() {
-        now = taken(now, bytes[i]);
-        i += 1;
-    }
-    now
-}
-
-// The most bytes of a read.
-const BUFFER_BYTES: usize = 65536;
-
-// What a read brought, and whether the input may go on.
-#[derive(Drop)]
-struct Read {
-    replay: Replay,
-    more: bool,
-}
-
-fn read_some(input: &mut Stdin, r: Replay) -> io::Result<Read> {
-    let mut buffer = [0u8; BUFFER_BYTES];
-    let n = input.read(&mut buffer)?;
-    let replay = fed(r, &buffer[..n]);
-    Ok(Read {
-        replay,
-        more: 0 < n,
-    })
-}
-
-// A proved loop has to end, and nothing says that the input does: the loop counts its turns down
-// from a number that no run uses up.
-fn read_all(input: &mut Stdin) -> io::Result<Replay> {
-    let mut replay = Replay {
-        line: Line::new(),
-        lines: 0,
-        differ: 0,
-        first: 0,
-    };
-    let mut turns = u64::MAX;
-    while 0 < turns {
-        let read = read_some(input, replay)?;
-        replay = read.replay;
-        if !read.more {
+// What all lines of the input give. A proved loop has to end, and nothing says that the input does: the loop has more turns than any run uses up.
+fn replay_all(input: &mut impl Read) -> io::Result<Tally> {
+    let mut replay = Replay::new();
+    let mut buffer = [0; BUFFER_BYTES];
+    for _ in 0..u64::MAX {
+        let count = input.read(&mut buffer)?;
+        if count == 0 {
             break;
         }
-        turns -= 1;
+        replay.read(&buffer[..count]);
     }
-    Ok(replay)
-}
-
-// A last line without an end counts too.
-fn ended(r: Replay) -> Replay {
-    if r.line.count == 0 {
-        return r;
-    }
-    judged(r)
+    Ok(replay.end())
 }
 
 fn main(rt: HostRuntime) -> io::Result<()> {
-    let r = ended(read_all(&mut rt.stdin())?);
-    let lines = r.lines;
-    let differ = r.differ;
+    let Tally {
+        lines,
+        differ,
+        first,
+    } = replay_all(&mut rt.stdin())?;
     print!(rt; "{lines} answers replayed, {differ} differ")?;
-    if 0 < differ {
-        let first = r.first;
+    if let Some(first) = first {
         print!(rt; ", first on line {first}")?;
     }
     println!(rt;)

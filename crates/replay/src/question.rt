@@ -2,16 +2,21 @@
 // oracle/compare/src/operations/.
 ghost use Rattle.std.specs.Prelude.{◌≤◌};
 
-use crate::line::{Line, MOST_FIELDS};
 use wuohtan::{alignment, frame_ranges, frames, page_ranges, pages, phys_addr, tables, virt_addr};
 
-// A status that no call answers.
+// A status that no call answers. It is a number and no None, since a line that records it for an operation that
+// there is none of agrees.
 const UNKNOWN: u8 = 252;
 
+// An operation's number, and as many arguments as it has.
+#[derive(Clone, Copy)]
+pub(crate) struct Question<'a> {
+    pub(crate) operation: u64,
+    pub(crate) arguments: &'a [u64],
+}
+
 // How many arguments the operation has.
-fn arguments(operation: u64) -> usize
-    ensures { result ≤ 5 }
-{
+pub(crate) fn arguments(operation: u64) -> usize {
     match operation {
         0x13 | 0x23 => 0,
         0x10
@@ -36,7 +41,7 @@ fn arguments(operation: u64) -> usize
 }
 
 // How many words the operation's answer has.
-fn words(operation: u64) -> usize
+pub(crate) fn words(operation: u64) -> usize
     ensures { result ≤ 4 }
 {
     match operation {
@@ -46,242 +51,230 @@ fn words(operation: u64) -> usize
     }
 }
 
-fn ask_virt_addr(operation: u64, a: u64, b: u64, out: &mut [u64]) -> u8 {
-    match operation {
-        0x10 => virt_addr::wuohtan_virt_addr_new(a, out),
-        0x11 => virt_addr::wuohtan_virt_addr_try_new(a, out),
-        0x12 => virt_addr::wuohtan_virt_addr_new_truncate(a, out),
-        0x13 => virt_addr::wuohtan_virt_addr_zero(out),
-        0x14 => virt_addr::wuohtan_virt_addr_as_u64(a, out),
-        0x15 => virt_addr::wuohtan_virt_addr_is_null(a, out),
-        0x16 => virt_addr::wuohtan_virt_addr_align_up(a, b, out),
-        0x17 => virt_addr::wuohtan_virt_addr_align_down(a, b, out),
-        0x18 => virt_addr::wuohtan_virt_addr_is_aligned(a, b, out),
-        0x19 => virt_addr::wuohtan_virt_addr_add(a, b, out),
-        0x1a => virt_addr::wuohtan_virt_addr_sub(a, b, out),
-        0x1b => virt_addr::wuohtan_virt_addr_sub_addr(a, b, out),
-        0x1c => virt_addr::wuohtan_virt_addr_forward_checked_u64(a, b, out),
-        0x1d => virt_addr::wuohtan_virt_addr_backward_checked_u64(a, b, out),
-        0x1e => virt_addr::wuohtan_virt_addr_steps_between_u64(a, b, out),
-        _ => UNKNOWN,
-    }
-}
-
-fn ask_phys_addr(operation: u64, a: u64, b: u64, out: &mut [u64]) -> u8 {
-    match operation {
-        0x20 => phys_addr::wuohtan_phys_addr_new(a, out),
-        0x21 => phys_addr::wuohtan_phys_addr_try_new(a, out),
-        0x22 => phys_addr::wuohtan_phys_addr_new_truncate(a, out),
-        0x23 => phys_addr::wuohtan_phys_addr_zero(out),
-        0x24 => phys_addr::wuohtan_phys_addr_as_u64(a, out),
-        0x25 => phys_addr::wuohtan_phys_addr_is_null(a, out),
-        0x26 => phys_addr::wuohtan_phys_addr_align_up(a, b, out),
-        0x27 => phys_addr::wuohtan_phys_addr_align_down(a, b, out),
-        0x28 => phys_addr::wuohtan_phys_addr_is_aligned(a, b, out),
-        0x29 => phys_addr::wuohtan_phys_addr_add(a, b, out),
-        0x2a => phys_addr::wuohtan_phys_addr_sub(a, b, out),
-        0x2b => phys_addr::wuohtan_phys_addr_sub_addr(a, b, out),
-        _ => UNKNOWN,
-    }
-}
-
-fn ask_table(operation: u64, a: u64, b: u64, out: &mut [u64]) -> u8 {
-    match operation {
-        0x30 => tables::wuohtan_page_table_index_new(a, out),
-        0x31 => tables::wuohtan_page_table_index_new_truncate(a, out),
-        0x32 => tables::wuohtan_page_table_index_into_u64(a, out),
-        0x33 => tables::wuohtan_page_table_index_forward_checked(a, b, out),
-        0x34 => tables::wuohtan_page_table_index_backward_checked(a, b, out),
-        0x35 => tables::wuohtan_page_table_index_steps_between(a, b, out),
-        0x38 => tables::wuohtan_page_offset_new(a, out),
-        0x39 => tables::wuohtan_page_offset_new_truncate(a, out),
-        0x3a => tables::wuohtan_page_offset_into_u64(a, out),
-        0x3c => tables::wuohtan_page_table_level_next_lower_level(a, out),
-        0x3d => tables::wuohtan_page_table_level_next_higher_level(a, out),
-        0x3e => tables::wuohtan_page_table_level_table_address_space_alignment(a, out),
-        0x3f => tables::wuohtan_page_table_level_entry_address_space_alignment(a, out),
-        _ => UNKNOWN,
-    }
-}
-
-fn ask_virt_addr_index(operation: u64, a: u64, b: u64, out: &mut [u64]) -> u8 {
-    match operation {
-        0x40 => virt_addr::wuohtan_virt_addr_page_offset(a, out),
-        0x41 => virt_addr::wuohtan_virt_addr_p1_index(a, out),
-        0x42 => virt_addr::wuohtan_virt_addr_p2_index(a, out),
-        0x43 => virt_addr::wuohtan_virt_addr_p3_index(a, out),
-        0x44 => virt_addr::wuohtan_virt_addr_p4_index(a, out),
-        0x45 => virt_addr::wuohtan_virt_addr_page_table_index(a, b, out),
-        _ => UNKNOWN,
-    }
-}
-
-fn ask_frame(operation: u64, a: u64, b: u64, c: u64, d: u64, out: &mut [u64]) -> u8 {
-    match operation {
-        0x50 => frames::wuohtan_phys_frame_from_start_address(a, b, out),
-        0x51 => frames::wuohtan_phys_frame_from_pfn(a, b, out),
-        0x52 => frames::wuohtan_phys_frame_try_from_pfn(a, b, out),
-        0x53 => frames::wuohtan_phys_frame_containing_address(a, b, out),
-        0x54 => frames::wuohtan_phys_frame_start_address(a, b, out),
-        0x55 => frames::wuohtan_phys_frame_size(a, b, out),
-        0x56 => frames::wuohtan_phys_frame_pfn(a, b, out),
-        0x57 => frames::wuohtan_phys_frame_add(a, b, c, out),
-        0x58 => frames::wuohtan_phys_frame_sub(a, b, c, out),
-        0x59 => frames::wuohtan_phys_frame_sub_frame(a, b, c, d, out),
-        _ => UNKNOWN,
-    }
-}
-
-fn ask_page(operation: u64, a: u64, b: u64, c: u64, d: u64, out: &mut [u64]) -> u8 {
-    match operation {
-        0x60 => pages::wuohtan_page_from_start_address(a, b, out),
-        0x61 => pages::wuohtan_page_containing_address(a, b, out),
-        0x62 => pages::wuohtan_page_start_address(a, b, out),
-        0x63 => pages::wuohtan_page_size(a, b, out),
-        0x64 => pages::wuohtan_page_p1_index(a, b, out),
-        0x65 => pages::wuohtan_page_p2_index(a, b, out),
-        0x66 => pages::wuohtan_page_p3_index(a, b, out),
-        0x67 => pages::wuohtan_page_p4_index(a, b, out),
-        0x68 => pages::wuohtan_page_page_table_index(a, b, c, out),
-        0x69 => pages::wuohtan_page_from_page_table_indices(a, b, c, d, out),
-        0x6a => pages::wuohtan_page_from_page_table_indices_2mib(a, b, c, out),
-        0x6b => pages::wuohtan_page_from_page_table_indices_1gib(a, b, out),
-        0x6c => pages::wuohtan_page_add(a, b, c, out),
-        0x6d => pages::wuohtan_page_sub(a, b, c, out),
-        0x6e => pages::wuohtan_page_sub_page(a, b, c, d, out),
-        0x6f => pages::wuohtan_page_forward_checked(a, b, c, out),
-        0x70 => pages::wuohtan_page_backward_checked(a, b, c, out),
-        0x71 => pages::wuohtan_page_steps_between_u64(a, b, c, d, out),
-        _ => UNKNOWN,
-    }
-}
-
-fn ask_page_range(operation: u64, a: u64, b: u64, c: u64, d: u64, n: u64, out: &mut [u64]) -> u8 {
-    match operation {
-        0x80 => page_ranges::wuohtan_page_range_new(a, b, c, d, out),
-        0x81 => page_ranges::wuohtan_page_range_is_empty(a, b, c, d, out),
-        0x82 => page_ranges::wuohtan_page_range_len(a, b, c, d, out),
-        0x83 => page_ranges::wuohtan_page_range_size(a, b, c, d, out),
-        0x84 => page_ranges::wuohtan_page_range_next(a, b, c, d, out),
-        0x85 => page_ranges::wuohtan_page_range_nth(a, b, c, d, n, out),
-        0x86 => page_ranges::wuohtan_page_range_next_back(a, b, c, d, out),
-        0x87 => page_ranges::wuohtan_page_range_nth_back(a, b, c, d, n, out),
-        0x88 => page_ranges::wuohtan_page_range_as_4kib_page_range(a, b, c, d, out),
-        _ => UNKNOWN,
-    }
-}
-
-fn ask_page_range_inclusive(
-    operation: u64,
-    a: u64,
-    b: u64,
-    c: u64,
-    d: u64,
-    n: u64,
-    out: &mut [u64],
-) -> u8 {
-    match operation {
-        0x90 => page_ranges::wuohtan_page_range_inclusive_new(a, b, c, d, out),
-        0x91 => page_ranges::wuohtan_page_range_inclusive_is_empty(a, b, c, d, out),
-        0x92 => page_ranges::wuohtan_page_range_inclusive_len(a, b, c, d, out),
-        0x93 => page_ranges::wuohtan_page_range_inclusive_size(a, b, c, d, out),
-        0x94 => page_ranges::wuohtan_page_range_inclusive_next(a, b, c, d, out),
-        0x95 => page_ranges::wuohtan_page_range_inclusive_nth(a, b, c, d, n, out),
-        0x96 => page_ranges::wuohtan_page_range_inclusive_next_back(a, b, c, d, out),
-        0x97 => page_ranges::wuohtan_page_range_inclusive_nth_back(a, b, c, d, n, out),
-        _ => UNKNOWN,
-    }
-}
-
-fn ask_frame_range(operation: u64, a: u64, b: u64, c: u64, d: u64, n: u64, out: &mut [u64]) -> u8 {
-    match operation {
-        0xa0 => frame_ranges::wuohtan_phys_frame_range_new(a, b, c, d, out),
-        0xa1 => frame_ranges::wuohtan_phys_frame_range_is_empty(a, b, c, d, out),
-        0xa2 => frame_ranges::wuohtan_phys_frame_range_len(a, b, c, d, out),
-        0xa3 => frame_ranges::wuohtan_phys_frame_range_size(a, b, c, d, out),
-        0xa4 => frame_ranges::wuohtan_phys_frame_range_next(a, b, c, d, out),
-        0xa5 => frame_ranges::wuohtan_phys_frame_range_nth(a, b, c, d, n, out),
-        0xa6 => frame_ranges::wuohtan_phys_frame_range_next_back(a, b, c, d, out),
-        0xa7 => frame_ranges::wuohtan_phys_frame_range_nth_back(a, b, c, d, n, out),
-        _ => UNKNOWN,
-    }
-}
-
-fn ask_frame_range_inclusive(
-    operation: u64,
-    a: u64,
-    b: u64,
-    c: u64,
-    d: u64,
-    n: u64,
-    out: &mut [u64],
-) -> u8 {
-    match operation {
-        0xb0 => frame_ranges::wuohtan_phys_frame_range_inclusive_new(a, b, c, d, out),
-        0xb1 => frame_ranges::wuohtan_phys_frame_range_inclusive_is_empty(a, b, c, d, out),
-        0xb2 => frame_ranges::wuohtan_phys_frame_range_inclusive_len(a, b, c, d, out),
-        0xb3 => frame_ranges::wuohtan_phys_frame_range_inclusive_size(a, b, c, d, out),
-        0xb4 => frame_ranges::wuohtan_phys_frame_range_inclusive_next(a, b, c, d, out),
-        0xb5 => frame_ranges::wuohtan_phys_frame_range_inclusive_nth(a, b, c, d, n, out),
-        0xb6 => frame_ranges::wuohtan_phys_frame_range_inclusive_next_back(a, b, c, d, out),
-        0xb7 => frame_ranges::wuohtan_phys_frame_range_inclusive_nth_back(a, b, c, d, n, out),
-        _ => UNKNOWN,
-    }
-}
-
-fn ask(operation: u64, a: u64, b: u64, c: u64, d: u64, n: u64, out: &mut [u64]) -> u8 {
-    match operation {
-        0x01 => alignment::wuohtan_align_down(a, b, out),
-        0x02 => alignment::wuohtan_align_up(a, b, out),
-        0x10..=0x1f => ask_virt_addr(operation, a, b, out),
-        0x20..=0x2f => ask_phys_addr(operation, a, b, out),
-        0x30..=0x3f => ask_table(operation, a, b, out),
-        0x40..=0x4f => ask_virt_addr_index(operation, a, b, out),
-        0x50..=0x5f => ask_frame(operation, a, b, c, d, out),
-        0x60..=0x7f => ask_page(operation, a, b, c, d, out),
-        0x80..=0x8f => ask_page_range(operation, a, b, c, d, n, out),
-        0x90..=0x9f => ask_page_range_inclusive(operation, a, b, c, d, n, out),
-        0xa0..=0xaf => ask_frame_range(operation, a, b, c, d, n, out),
-        0xb0..=0xbf => ask_frame_range_inclusive(operation, a, b, c, d, n, out),
-        _ => UNKNOWN,
-    }
-}
-
-// Whether the first k words of out are those of the line from a place on.
-fn same_words(out: [u64; 8], fields: [u64; MOST_FIELDS], place: usize, k: usize) -> bool
-    requires { (k ≤ 4) × (place ≤ 8) }
-{
-    let mut i = 0;
-    while i < k {
-        if out[i] != fields[place + i] {
-            return false;
+impl Question<'_> {
+    // The status that the call answers; its words are in out then.
+    pub(crate) fn ask(self, out: &mut [u64]) -> u8 {
+        match (self.operation, self.arguments) {
+            (0x01, &[a, b]) => alignment::wuohtan_align_down(a, b, out),
+            (0x02, &[a, b]) => alignment::wuohtan_align_up(a, b, out),
+            (0x10..=0x1f, _) => self.ask_virt_addr(out),
+            (0x20..=0x2f, _) => self.ask_phys_addr(out),
+            (0x30..=0x3f, _) => self.ask_table(out),
+            (0x40..=0x4f, _) => self.ask_virt_addr_index(out),
+            (0x50..=0x5f, _) => self.ask_frame(out),
+            (0x60..=0x7f, _) => self.ask_page(out),
+            (0x80..=0x8f, _) => self.ask_page_range(out),
+            (0x90..=0x9f, _) => self.ask_page_range_inclusive(out),
+            (0xa0..=0xaf, _) => self.ask_frame_range(out),
+            (0xb0..=0xbf, _) => self.ask_frame_range_inclusive(out),
+            _ => UNKNOWN,
         }
-        i += 1;
     }
-    true
-}
 
-// Whether the answer that the line records is the one that the call gives.
-pub(crate) fn agrees(line: Line) -> bool {
-    let fields = line.fields;
-    let count = line.count;
-    let n = arguments(fields[0]);
-    let k = words(fields[0]);
-    if !line.good || count < n + 2 {
-        return false;
+    fn ask_virt_addr(self, out: &mut [u64]) -> u8 {
+        match (self.operation, self.arguments) {
+            (0x10, &[a]) => virt_addr::wuohtan_virt_addr_new(a, out),
+            (0x11, &[a]) => virt_addr::wuohtan_virt_addr_try_new(a, out),
+            (0x12, &[a]) => virt_addr::wuohtan_virt_addr_new_truncate(a, out),
+            (0x13, &[]) => virt_addr::wuohtan_virt_addr_zero(out),
+            (0x14, &[a]) => virt_addr::wuohtan_virt_addr_as_u64(a, out),
+            (0x15, &[a]) => virt_addr::wuohtan_virt_addr_is_null(a, out),
+            (0x16, &[a, b]) => virt_addr::wuohtan_virt_addr_align_up(a, b, out),
+            (0x17, &[a, b]) => virt_addr::wuohtan_virt_addr_align_down(a, b, out),
+            (0x18, &[a, b]) => virt_addr::wuohtan_virt_addr_is_aligned(a, b, out),
+            (0x19, &[a, b]) => virt_addr::wuohtan_virt_addr_add(a, b, out),
+            (0x1a, &[a, b]) => virt_addr::wuohtan_virt_addr_sub(a, b, out),
+            (0x1b, &[a, b]) => virt_addr::wuohtan_virt_addr_sub_addr(a, b, out),
+            (0x1c, &[a, b]) => virt_addr::wuohtan_virt_addr_forward_checked_u64(a, b, out),
+            (0x1d, &[a, b]) => virt_addr::wuohtan_virt_addr_backward_checked_u64(a, b, out),
+            (0x1e, &[a, b]) => virt_addr::wuohtan_virt_addr_steps_between_u64(a, b, out),
+            _ => UNKNOWN,
+        }
     }
-    let mut out = [0u64; 8];
-    let status = ask(
-        fields[0], fields[1], fields[2], fields[3], fields[4], fields[5], &mut out,
-    );
-    if status as u64 != fields[n + 1] {
-        return false;
+
+    fn ask_phys_addr(self, out: &mut [u64]) -> u8 {
+        match (self.operation, self.arguments) {
+            (0x20, &[a]) => phys_addr::wuohtan_phys_addr_new(a, out),
+            (0x21, &[a]) => phys_addr::wuohtan_phys_addr_try_new(a, out),
+            (0x22, &[a]) => phys_addr::wuohtan_phys_addr_new_truncate(a, out),
+            (0x23, &[]) => phys_addr::wuohtan_phys_addr_zero(out),
+            (0x24, &[a]) => phys_addr::wuohtan_phys_addr_as_u64(a, out),
+            (0x25, &[a]) => phys_addr::wuohtan_phys_addr_is_null(a, out),
+            (0x26, &[a, b]) => phys_addr::wuohtan_phys_addr_align_up(a, b, out),
+            (0x27, &[a, b]) => phys_addr::wuohtan_phys_addr_align_down(a, b, out),
+            (0x28, &[a, b]) => phys_addr::wuohtan_phys_addr_is_aligned(a, b, out),
+            (0x29, &[a, b]) => phys_addr::wuohtan_phys_addr_add(a, b, out),
+            (0x2a, &[a, b]) => phys_addr::wuohtan_phys_addr_sub(a, b, out),
+            (0x2b, &[a, b]) => phys_addr::wuohtan_phys_addr_sub_addr(a, b, out),
+            _ => UNKNOWN,
+        }
     }
-    if status != 0 {
-        return count == n + 2;
+
+    fn ask_table(self, out: &mut [u64]) -> u8 {
+        match (self.operation, self.arguments) {
+            (0x30, &[a]) => tables::wuohtan_page_table_index_new(a, out),
+            (0x31, &[a]) => tables::wuohtan_page_table_index_new_truncate(a, out),
+            (0x32, &[a]) => tables::wuohtan_page_table_index_into_u64(a, out),
+            (0x33, &[a, b]) => tables::wuohtan_page_table_index_forward_checked(a, b, out),
+            (0x34, &[a, b]) => tables::wuohtan_page_table_index_backward_checked(a, b, out),
+            (0x35, &[a, b]) => tables::wuohtan_page_table_index_steps_between(a, b, out),
+            (0x38, &[a]) => tables::wuohtan_page_offset_new(a, out),
+            (0x39, &[a]) => tables::wuohtan_page_offset_new_truncate(a, out),
+            (0x3a, &[a]) => tables::wuohtan_page_offset_into_u64(a, out),
+            (0x3c, &[a]) => tables::wuohtan_page_table_level_next_lower_level(a, out),
+            (0x3d, &[a]) => tables::wuohtan_page_table_level_next_higher_level(a, out),
+            (0x3e, &[a]) => tables::wuohtan_page_table_level_table_address_space_alignment(a, out),
+            (0x3f, &[a]) => tables::wuohtan_page_table_level_entry_address_space_alignment(a, out),
+            _ => UNKNOWN,
+        }
     }
-    if count != n + 2 + k {
-        return false;
+
+    fn ask_virt_addr_index(self, out: &mut [u64]) -> u8 {
+        match (self.operation, self.arguments) {
+            (0x40, &[a]) => virt_addr::wuohtan_virt_addr_page_offset(a, out),
+            (0x41, &[a]) => virt_addr::wuohtan_virt_addr_p1_index(a, out),
+            (0x42, &[a]) => virt_addr::wuohtan_virt_addr_p2_index(a, out),
+            (0x43, &[a]) => virt_addr::wuohtan_virt_addr_p3_index(a, out),
+            (0x44, &[a]) => virt_addr::wuohtan_virt_addr_p4_index(a, out),
+            (0x45, &[a, b]) => virt_addr::wuohtan_virt_addr_page_table_index(a, b, out),
+            _ => UNKNOWN,
+        }
     }
-    same_words(out, fields, n + 2, k)
+
+    fn ask_frame(self, out: &mut [u64]) -> u8 {
+        match (self.operation, self.arguments) {
+            (0x50, &[a, b]) => frames::wuohtan_phys_frame_from_start_address(a, b, out),
+            (0x51, &[a, b]) => frames::wuohtan_phys_frame_from_pfn(a, b, out),
+            (0x52, &[a, b]) => frames::wuohtan_phys_frame_try_from_pfn(a, b, out),
+            (0x53, &[a, b]) => frames::wuohtan_phys_frame_containing_address(a, b, out),
+            (0x54, &[a, b]) => frames::wuohtan_phys_frame_start_address(a, b, out),
+            (0x55, &[a, b]) => frames::wuohtan_phys_frame_size(a, b, out),
+            (0x56, &[a, b]) => frames::wuohtan_phys_frame_pfn(a, b, out),
+            (0x57, &[a, b, c]) => frames::wuohtan_phys_frame_add(a, b, c, out),
+            (0x58, &[a, b, c]) => frames::wuohtan_phys_frame_sub(a, b, c, out),
+            (0x59, &[a, b, c, d]) => frames::wuohtan_phys_frame_sub_frame(a, b, c, d, out),
+            _ => UNKNOWN,
+        }
+    }
+
+    fn ask_page(self, out: &mut [u64]) -> u8 {
+        match (self.operation, self.arguments) {
+            (0x60, &[a, b]) => pages::wuohtan_page_from_start_address(a, b, out),
+            (0x61, &[a, b]) => pages::wuohtan_page_containing_address(a, b, out),
+            (0x62, &[a, b]) => pages::wuohtan_page_start_address(a, b, out),
+            (0x63, &[a, b]) => pages::wuohtan_page_size(a, b, out),
+            (0x64, &[a, b]) => pages::wuohtan_page_p1_index(a, b, out),
+            (0x65, &[a, b]) => pages::wuohtan_page_p2_index(a, b, out),
+            (0x66, &[a, b]) => pages::wuohtan_page_p3_index(a, b, out),
+            (0x67, &[a, b]) => pages::wuohtan_page_p4_index(a, b, out),
+            (0x68, &[a, b, c]) => pages::wuohtan_page_page_table_index(a, b, c, out),
+            (0x69, &[a, b, c, d]) => pages::wuohtan_page_from_page_table_indices(a, b, c, d, out),
+            (0x6a, &[a, b, c]) => pages::wuohtan_page_from_page_table_indices_2mib(a, b, c, out),
+            (0x6b, &[a, b]) => pages::wuohtan_page_from_page_table_indices_1gib(a, b, out),
+            (0x6c, &[a, b, c]) => pages::wuohtan_page_add(a, b, c, out),
+            (0x6d, &[a, b, c]) => pages::wuohtan_page_sub(a, b, c, out),
+            (0x6e, &[a, b, c, d]) => pages::wuohtan_page_sub_page(a, b, c, d, out),
+            (0x6f, &[a, b, c]) => pages::wuohtan_page_forward_checked(a, b, c, out),
+            (0x70, &[a, b, c]) => pages::wuohtan_page_backward_checked(a, b, c, out),
+            (0x71, &[a, b, c, d]) => pages::wuohtan_page_steps_between_u64(a, b, c, d, out),
+            _ => UNKNOWN,
+        }
+    }
+
+    fn ask_page_range(self, out: &mut [u64]) -> u8 {
+        match (self.operation, self.arguments) {
+            (0x80, &[a, b, c, d]) => page_ranges::wuohtan_page_range_new(a, b, c, d, out),
+            (0x81, &[a, b, c, d]) => page_ranges::wuohtan_page_range_is_empty(a, b, c, d, out),
+            (0x82, &[a, b, c, d]) => page_ranges::wuohtan_page_range_len(a, b, c, d, out),
+            (0x83, &[a, b, c, d]) => page_ranges::wuohtan_page_range_size(a, b, c, d, out),
+            (0x84, &[a, b, c, d]) => page_ranges::wuohtan_page_range_next(a, b, c, d, out),
+            (0x85, &[a, b, c, d, n]) => page_ranges::wuohtan_page_range_nth(a, b, c, d, n, out),
+            (0x86, &[a, b, c, d]) => page_ranges::wuohtan_page_range_next_back(a, b, c, d, out),
+            (0x87, &[a, b, c, d, n]) => page_ranges::wuohtan_page_range_nth_back(
+                a, b, c, d, n, out,
+            ),
+            (0x88, &[a, b, c, d]) => page_ranges::wuohtan_page_range_as_4kib_page_range(
+                a, b, c, d, out,
+            ),
+            _ => UNKNOWN,
+        }
+    }
+
+    fn ask_page_range_inclusive(self, out: &mut [u64]) -> u8 {
+        match (self.operation, self.arguments) {
+            (0x90, &[a, b, c, d]) => page_ranges::wuohtan_page_range_inclusive_new(a, b, c, d, out),
+            (0x91, &[a, b, c, d]) => page_ranges::wuohtan_page_range_inclusive_is_empty(
+                a, b, c, d, out,
+            ),
+            (0x92, &[a, b, c, d]) => page_ranges::wuohtan_page_range_inclusive_len(a, b, c, d, out),
+            (0x93, &[a, b, c, d]) => page_ranges::wuohtan_page_range_inclusive_size(
+                a, b, c, d, out,
+            ),
+            (0x94, &[a, b, c, d]) => page_ranges::wuohtan_page_range_inclusive_next(
+                a, b, c, d, out,
+            ),
+            (0x95, &[a, b, c, d, n]) => page_ranges::wuohtan_page_range_inclusive_nth(
+                a, b, c, d, n, out,
+            ),
+            (0x96, &[a, b, c, d]) => page_ranges::wuohtan_page_range_inclusive_next_back(
+                a, b, c, d, out,
+            ),
+            (0x97, &[a, b, c, d, n]) => page_ranges::wuohtan_page_range_inclusive_nth_back(
+                a, b, c, d, n, out,
+            ),
+            _ => UNKNOWN,
+        }
+    }
+
+    fn ask_frame_range(self, out: &mut [u64]) -> u8 {
+        match (self.operation, self.arguments) {
+            (0xa0, &[a, b, c, d]) => frame_ranges::wuohtan_phys_frame_range_new(a, b, c, d, out),
+            (0xa1, &[a, b, c, d]) => frame_ranges::wuohtan_phys_frame_range_is_empty(
+                a, b, c, d, out,
+            ),
+            (0xa2, &[a, b, c, d]) => frame_ranges::wuohtan_phys_frame_range_len(a, b, c, d, out),
+            (0xa3, &[a, b, c, d]) => frame_ranges::wuohtan_phys_frame_range_size(a, b, c, d, out),
+            (0xa4, &[a, b, c, d]) => frame_ranges::wuohtan_phys_frame_range_next(a, b, c, d, out),
+            (0xa5, &[a, b, c, d, n]) => frame_ranges::wuohtan_phys_frame_range_nth(
+                a, b, c, d, n, out,
+            ),
+            (0xa6, &[a, b, c, d]) => frame_ranges::wuohtan_phys_frame_range_next_back(
+                a, b, c, d, out,
+            ),
+            (0xa7, &[a, b, c, d, n]) => frame_ranges::wuohtan_phys_frame_range_nth_back(
+                a, b, c, d, n, out,
+            ),
+            _ => UNKNOWN,
+        }
+    }
+
+    fn ask_frame_range_inclusive(self, out: &mut [u64]) -> u8 {
+        match (self.operation, self.arguments) {
+            (0xb0, &[a, b, c, d]) => frame_ranges::wuohtan_phys_frame_range_inclusive_new(
+                a, b, c, d, out,
+            ),
+            (0xb1, &[a, b, c, d]) => frame_ranges::wuohtan_phys_frame_range_inclusive_is_empty(
+                a, b, c, d, out,
+            ),
+            (0xb2, &[a, b, c, d]) => frame_ranges::wuohtan_phys_frame_range_inclusive_len(
+                a, b, c, d, out,
+            ),
+            (0xb3, &[a, b, c, d]) => frame_ranges::wuohtan_phys_frame_range_inclusive_size(
+                a, b, c, d, out,
+            ),
+            (0xb4, &[a, b, c, d]) => frame_ranges::wuohtan_phys_frame_range_inclusive_next(
+                a, b, c, d, out,
+            ),
+            (0xb5, &[a, b, c, d, n]) => frame_ranges::wuohtan_phys_frame_range_inclusive_nth(
+                a, b, c, d, n, out,
+            ),
+            (0xb6, &[a, b, c, d]) => frame_ranges::wuohtan_phys_frame_range_inclusive_next_back(
+                a, b, c, d, out,
+            ),
+            (0xb7, &[a, b, c, d, n]) => frame_ranges::wuohtan_phys_frame_range_inclusive_nth_back(
+                a, b, c, d, n, out,
+            ),
+            _ => UNKNOWN,
+        }
+    }
 }

@@ -4,5 +4,5 @@
 mod status;
 mod words;
 
-pub use status::{NO_ROOM, NO_SUCH_CHOICE, NONE};
-pub use words::{give, give_five, give_four, give_three, give_two};
+pub use status::Status;
+pub use words::give;

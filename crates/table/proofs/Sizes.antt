@@ -1,6 +1,7 @@
 -- The bounds of a page size.
-use Prim.Native.Nat.{◌≤◌, ◌<◌}
-use lib.Dec.{lit<, lit≤}
+use Prim.Native.Nat.{ℕ, ◌*◌, ◌/◌, ◌^◌, ◌≤◌, ◌<◌}
+use native.Mathlib.Omega.{arith}
+use lib.Dec.{lit≤}
 use Rattle.table.specs.Level.{power_of, bytes_of}
 use Rattle.table.specs.declared.size.PageSize.{PageSize}
 use Rattle.table.specs.declared.size.PageSize.TheVariants.{Size4KiB, Size2MiB, Size1GiB}
@@ -14,8 +15,13 @@ bounds Size4KiB = record { above = lit≤ tt; below = lit≤ tt }
 bounds Size2MiB = record { above = lit≤ tt; below = lit≤ tt }
 bounds Size1GiB = record { above = lit≤ tt; below = lit≤ tt }
 
--- a size is more than a byte
-pub bytes-above : (s : PageSize) → 1 < bytes_of s
-bytes-above Size4KiB = lit< tt
-bytes-above Size2MiB = lit< tt
-bytes-above Size1GiB = lit< tt
+-- more pages than have room in 64 bits, and no more
+pub past_count : (s : PageSize) (n : ℕ) → 18446744073709551615 / bytes_of s < n → 2 ^ 64 ≤ n * bytes_of s
+past_count Size4KiB n h = omega arith
+past_count Size2MiB n h = omega arith
+past_count Size1GiB n h = omega arith
+
+pub within_count : (s : PageSize) (n : ℕ) → n ≤ 18446744073709551615 / bytes_of s → n * bytes_of s < 2 ^ 64
+within_count Size4KiB n h = omega arith
+within_count Size2MiB n h = omega arith
+within_count Size1GiB n h = omega arith

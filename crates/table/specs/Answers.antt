@@ -1,23 +1,18 @@
--- What each case of an answer stands for.
-use Rattle.std.specs.Prelude.{ℕ}
-use Rattle.answer.specs.Outcome.{Outcome, gives, none, refuses}
+-- What an answer with an index, an offset or a level stands for.
+use Rattle.std.specs.Prelude.{ℕ, Option, Result, Some, None}
+use Rattle.answer.specs.Outcome.{Outcome, gives, none}
+use Rattle.answer.specs.Answers.{outcome_of, optional_of}
+use Rattle.answer.specs.declared.refusal.Refusal.{Refusal}
 use Rattle.table.specs.Level.{level_of}
-use Rattle.table.specs.declared.index.IndexAnswer.{IndexAnswer}
-use Rattle.table.specs.declared.index.IndexAnswer.TheVariants as index
-use Rattle.table.specs.declared.offset.OffsetAnswer.{OffsetAnswer}
-use Rattle.table.specs.declared.offset.OffsetAnswer.TheVariants as offset
-use Rattle.table.specs.declared.level.LevelAnswer.{LevelAnswer}
-use Rattle.table.specs.declared.level.LevelAnswer.TheVariants as level
+use Rattle.table.specs.declared.up_to.UpTo.{UpTo}
+use Rattle.table.specs.declared.level.PageTableLevel.{PageTableLevel}
 
-abbrev pub index_of : IndexAnswer → Outcome ℕ
-index_of (index.Index i) = gives i.0
-index_of index.None = none
-index_of (index.Refused k) = refuses k
+abbrev pub small_of : {n : ℕ} → Result (UpTo n) Refusal → Outcome ℕ
+small_of = outcome_of (λ i. i.0)
 
-abbrev pub offset_of : OffsetAnswer → Outcome ℕ
-offset_of (offset.Offset o) = gives o.0
-offset_of (offset.Refused k) = refuses k
+abbrev pub small_step_of : {n : ℕ} → Result (Option (UpTo n)) Refusal → Outcome ℕ
+small_step_of = optional_of (λ i. i.0)
 
-abbrev pub level_answer_of : LevelAnswer → Outcome ℕ
-level_answer_of (level.Level l) = gives (level_of l)
-level_answer_of level.None = none
+abbrev pub level_answer_of : Option PageTableLevel → Outcome ℕ
+level_answer_of (Some l) = gives (level_of l)
+level_answer_of None = none

@@ -4,7 +4,7 @@ ghost use Rattle.laws.specs.Index.{span, index};
 ghost use Rattle.table.specs.Answers.{level_answer_of};
 ghost use Rattle.table.specs.Level.{level_of, lower, higher};
 
-use crate::index::PageTableIndex;
+use crate::up_to::PageTableIndex;
 
 // What one entry spans at levels 1 to 4, and last the whole level-4 table.
 pub const SPANS: [u64; 5] = [
@@ -24,18 +24,12 @@ pub(crate) fn span_of(level: usize) -> u64
 }
 
 // From the tables that map 4 KiB pages up to the one that the walk begins with.
-#[derive(Clone, Copy)]
+#[derive(Clone, Copy, Debug, PartialEq, Eq, PartialOrd, Ord)]
 pub enum PageTableLevel {
-    One,
-    Two,
-    Three,
-    Four,
-}
-
-#[derive(Clone, Copy)]
-pub enum LevelAnswer {
-    Level(PageTableLevel),
-    None,
+    One = 1,
+    Two = 2,
+    Three = 3,
+    Four = 4,
 }
 
 impl PageTableLevel {
@@ -43,35 +37,30 @@ impl PageTableLevel {
     pub fn number(self) -> usize
         ensures { result ≡ level_of self }
     {
-        match self {
-            PageTableLevel::One => 1,
-            PageTableLevel::Two => 2,
-            PageTableLevel::Three => 3,
-            PageTableLevel::Four => 4,
-        }
+        self as usize
     }
 
     // The level below; none below 1.
-    pub fn next_lower_level(self) -> LevelAnswer
+    pub fn next_lower_level(self) -> Option<PageTableLevel>
         ensures { level_answer_of result ≡ lower (level_of self) }
     {
         match self {
-            PageTableLevel::Four => LevelAnswer::Level(PageTableLevel::Three),
-            PageTableLevel::Three => LevelAnswer::Level(PageTableLevel::Two),
-            PageTableLevel::Two => LevelAnswer::Level(PageTableLevel::One),
-            PageTableLevel::One => LevelAnswer::None,
+            PageTableLevel::Four => Some(PageTableLevel::Three),
+            PageTableLevel::Three => Some(PageTableLevel::Two),
+            PageTableLevel::Two => Some(PageTableLevel::One),
+            PageTableLevel::One => None,
         }
     }
 
     // The level above; none above 4.
-    pub fn next_higher_level(self) -> LevelAnswer
+    pub fn next_higher_level(self) -> Option<PageTableLevel>
         ensures { level_answer_of result ≡ higher 4 (level_of self) }
     {
         match self {
-            PageTableLevel::Four => LevelAnswer::None,
-            PageTableLevel::Three => LevelAnswer::Level(PageTableLevel::Four),
-            PageTableLevel::Two => LevelAnswer::Level(PageTableLevel::Three),
-            PageTableLevel::One => LevelAnswer::Level(PageTableLevel::Two),
+            PageTableLevel::Four => None,
+            PageTableLevel::Three => Some(PageTableLevel::Four),
+            PageTableLevel::Two => Some(PageTableLevel::Three),
+            PageTableLevel::One => Some(PageTableLevel::Two),
         }
     }
 
@@ -87,10 +76,7 @@ impl PageTableLevel {
     pub fn index_of(self, addr: u64) -> PageTableIndex
         ensures { result.0 ≡ index (level_of self) addr }
     {
-        let level = self.number();
-        let within = addr & (span_of(level) - 1);
-        let shift = 12 + 9 * (level - 1);
-        PageTableIndex((within >> shift) as u16)
+        PageTableIndex::new_truncate(addr >> (12 + 9 * (self.number() - 1)))
     }
 
     // What an entry of a table of this level spans.

@@ -4,10 +4,10 @@
 
 mod index;
 mod level;
-mod offset;
 mod size;
+mod up_to;
 
-pub use index::{ENTRY_COUNT, IndexAnswer, PageTableIndex};
-pub use level::{LevelAnswer, PageTableLevel, SPANS};
-pub use offset::{OffsetAnswer, PageOffset};
+pub use index::ENTRY_COUNT;
+pub use level::{PageTableLevel, SPANS};
 pub use size::PageSize;
+pub use up_to::{PageOffset, PageTableIndex, UpTo};

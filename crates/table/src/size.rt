@@ -1,9 +1,9 @@
 // The sizes of pages and frames.
-ghost use Rattle.std.specs.Prelude.{◌≡◌, ◌/◌, ◌%◌};
+ghost use Rattle.std.specs.Prelude.{◌≡◌, ◌*◌, ◌/◌, ◌%◌, ◌^◌, ◌<◌, SomeIff};
 ghost use Rattle.table.specs.Level.{power_of, bytes_of};
 
 // The source's three types are one closed choice here, held in each page and frame.
-#[derive(Clone, Copy)]
+#[derive(Clone, Copy, Debug, PartialEq, Eq)]
 pub enum PageSize {
     Size4KiB,
     Size2MiB,
@@ -45,5 +45,17 @@ impl PageSize {
         ensures { result ≡ n / bytes_of self }
     {
         n >> self.power()
+    }
+    // The bytes of so many pages of the size, if they are below 2^64: by a shift, where `checked_mul` would
+    // divide.
+    #[tactic(auto, using(crate::proofs::Sizes::past_count, crate::proofs::Sizes::within_count))]
+    pub fn checked_bytes(self, count: u64) -> Option<u64>
+        ensures { SomeIff result (count * bytes_of self < 2 ^ 64) (count * bytes_of self) }
+    {
+        if self.count(u64::MAX) < count {
+            None
+        } else {
+            Some(count * self.bytes())
+        }
     }
 }

@@ -1,1 +1,2 @@
+pub mod Walked
 pub mod Translate

@@ -1,98 +1,104 @@
 // Translation of an address.
 ghost use Rattle.std.specs.Prelude.{◌≡◌};
 ghost use Rattle.addr.specs.Widths.{width_of, levels_of};
-ghost use Rattle.paging.specs.Memory.{segments_in, Inside};
-ghost use Rattle.paging.specs.Translate.{translation, translation_from};
-ghost use Rattle.translation.specs.Translate.{AnswersPacked, SizeAt, translation_of};
+ghost use Rattle.paging.specs.Memory.{Inside};
+ghost use Rattle.paging.specs.Packed.{Fits};
+ghost use Rattle.paging.specs.Translate.{translated, translation, translation_from};
+ghost use Rattle.walk.specs.Segments.{segments_of};
+ghost use Rattle.translation.specs.Walked.{walked_of};
+ghost use Rattle.translation.specs.Translate.{SizeAt, translated_of, translation_of};
 
-use crate::tables::walk_table;
+use crate::tables::{Walked, walk_table};
 use addr::{VirtAddr, Width};
-use answer::NOT_CANONICAL;
+use address::Addresses;
+use answer::Refusal;
 use phys::PhysAddr;
 use table::PageSize;
-use walk::{ALL_RIGHTS, NO_MASK, Rights, Root, image_place, levels, page_number, rights_from};
+use walk::{ALL_RIGHTS, NO_MASK, Rights, Segment, Tables, image_place, levels, page_number};
 
 // The number is the level of the entry that decides.
-#[derive(Clone, Copy)]
+#[derive(Clone, Copy, Debug, PartialEq, Eq)]
 pub enum TranslateAnswer {
     Mapped(PhysAddr, PageSize, Rights),
     Absent(u64),
     Reserved(u64),
     Outside(u64),
-    Refused(u8),
 }
 
 // The size of the pages that an entry of level 1, 2 or 3 maps.
 fn size_at(level: u64) -> PageSize
     ensures { SizeAt level result }
 {
-    if level == 1 {
-        return PageSize::Size4KiB;
+    match level {
+        1 => PageSize::Size4KiB,
+        2 => PageSize::Size2MiB,
+        _ => PageSize::Size1GiB,
     }
-    if level == 2 {
-        return PageSize::Size2MiB;
-    }
-    PageSize::Size1GiB
 }
 
 // The answer for an address, by what the walk says of its page.
-fn answer_for(addr: u64, found: u64) -> TranslateAnswer
-    ensures { AnswersPacked addr found result }
+fn answer_for(addr: u64, found: Walked) -> TranslateAnswer
+    requires { Fits (walked_of found) }
+    ensures { translated_of result ≡ translated addr (walked_of found) }
 {
-    let kind = found & 3;
-    let level = (found >> 2) & 7;
-    if kind == 0 {
-        return TranslateAnswer::Absent(level);
+    match found {
+        Walked::Absent(level) => TranslateAnswer::Absent(level),
+        Walked::Reserved(level) => TranslateAnswer::Reserved(level),
+        Walked::Outside(level) => TranslateAnswer::Outside(level),
+        Walked::Mapped {
+            frame,
+            level,
+            rights,
+        } => TranslateAnswer::Mapped(
+            PhysAddr(frame * 0x1000 + (addr & 0xfff)),
+            size_at(level),
+            rights,
+        ),
     }
-    if kind == 1 {
-        return TranslateAnswer::Reserved(level);
-    }
-    if kind == 2 {
-        return TranslateAnswer::Outside(level);
-    }
-    TranslateAnswer::Mapped(
-        PhysAddr(((found >> 8) & 0xff_ffff_ffff) * 0x1000 + (addr & 0xfff)),
-        size_at(level),
-        rights_from((found >> 5) & 7),
-    )
 }
 
-// Where an address leads in the tables below the root at a place, and with which rights.
+// Where an address leads in the tables below the root at a place, and with which rights: 1 of the address.
 fn translate_from(
-    words: &[u64],
-    segments: &[u64],
+    tables: &Tables,
     root: usize,
     width: Width,
-    reserved: u64,
     addr: u64,
-) -> TranslateAnswer
-    requires { Inside (segments_in segments.now) words.now root }
-    ensures { translation_of result ≡ translation_from (width_of width) (levels_of width) reserved (segments_in segments.now) words.now root addr }
+) -> Result<TranslateAnswer, Refusal>
+    requires { Inside (segments_of tables.now.segments.now) tables.now.words.now root }
+    ensures { translation_of result ≡ translation_from (width_of width) (levels_of width) tables.now.reserved (segments_of tables.now.segments.now) tables.now.words.now root addr }
 {
-    if !width.is_canonical(addr) {
-        return TranslateAnswer::Refused(NOT_CANONICAL);
-    }
-    let page = page_number(width, addr);
-    let found = walk_table(
-        words,
-        segments,
+    let addr = width.argument(addr)?;
+    let mut found = Walked::Absent(0);
+    walk_table(
+        tables,
         root,
         levels(width),
-        page,
+        page_number(width, addr),
         ALL_RIGHTS,
-        reserved,
+        &mut found,
     );
-    answer_for(addr, found)
+    Ok(answer_for(addr, found))
 }
 
-// Where an address leads in the tables below root, and with which rights.
-pub fn translate(image: &[u64], base: PhysAddr, root: PhysAddr, addr: VirtAddr) -> TranslateAnswer
+// Where an address leads in the tables below root, and with which rights: base 2, 3; root 2, 3; then 14; then 1 of the address.
+#[tactic(auto, using(crate::proofs::Images::image_refused, crate::proofs::Images::image_inside, crate::proofs::Images::image_translated))]
+pub fn translate(
+    image: &[u64],
+    base: PhysAddr,
+    root: PhysAddr,
+    addr: VirtAddr,
+) -> Result<TranslateAnswer, Refusal>
     ensures { translation_of result ≡ translation 48 4 image.now base.0 root.0 addr.0 }
 {
-    let segments = [base.0, image.len() as u64];
-    let place = image_place(image.len() as u64, &segments, base.0, root.0);
-    match place {
-        Root::Refused(number) => TranslateAnswer::Refused(number),
-        Root::At(at) => translate_from(image, &segments, at, Width::Bits48, NO_MASK, addr.0),
-    }
+    let segments = [Segment {
+        base: base.0,
+        words: image.len() as u64,
+    }];
+    let at = image_place(image.len() as u64, &segments, base.0, root.0)?;
+    let tables = Tables {
+        words: image,
+        segments: &segments,
+        reserved: NO_MASK,
+    };
+    translate_from(&tables, at, Width::Bits48, addr.0)
 }

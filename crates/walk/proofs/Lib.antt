@@ -1,4 +1,5 @@
 pub mod Looks
+pub mod Seen
 pub mod Walked
 pub mod Refused
 pub mod Lowest

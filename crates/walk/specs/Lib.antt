@@ -1,4 +1,5 @@
 pub mod Rights
 pub mod Look
 pub mod Place
+pub mod Segments
 pub mod Root

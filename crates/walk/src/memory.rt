@@ -1,46 +1,60 @@
 // The tables of an image, whose words are lent in segments one after the other.
-ghost use Rattle.std.specs.Prelude.{◌≡◌};
-ghost use Rattle.paging.specs.Memory.{inside_of, place_from, reaching, segments_in};
+ghost use Rattle.std.specs.Prelude.{◌≡◌, length};
+ghost use Rattle.paging.specs.Memory.{inside_of, place_from, reaching};
 ghost use Rattle.walk.specs.Place.{place_of};
+ghost use Rattle.walk.specs.Segments.{segment_of, segments_of};
 
 // A table's words.
 pub const TABLE_WORDS: usize = 512;
 
-// Where a table begins in the lent words, if it is wholly inside.
-#[derive(Clone, Copy)]
-pub enum Place {
-    At(usize),
-    Outside,
+// The physical address of its first word, and how many words it has.
+#[derive(Clone, Copy, Debug, PartialEq, Eq)]
+pub struct Segment {
+    pub base: u64,
+    pub words: u64,
 }
 
-// Whether the table at a physical address is wholly in a segment.
-fn holds_table(base: u64, words: u64, table: u64) -> bool
-    ensures { result ≡ inside_of (record { base = base; words = words }) table }
-{
-    if base <= table {
-        return (table - base) / 8 + TABLE_WORDS as u64 <= words;
+impl Segment {
+    // Whether the table at a physical address is wholly in it.
+    fn holds(self, table: u64) -> bool
+        ensures { result ≡ inside_of (segment_of self) table }
+    {
+        self.base <= table && (table - self.base) / 8 + TABLE_WORDS as u64 <= self.words
     }
-    false
 }
 
-// The place of the table at a physical address, in so many lent words. Segments are pairs: the address of the first word, and how many words there are; where they have
-// more than are lent, those that are count.
-pub fn table_place(lent: u64, segments: &[u64], table: u64) -> Place
-    ensures { place_of result ≡ place_from 0 (reaching lent (segments_in segments.now)) table }
+// Where the table at a physical address begins in so many lent words, if it is wholly inside. Where the segments have more words than are lent, those that are count.
+#[tactic(auto, using(crate::proofs::Segments::found_next, crate::proofs::Segments::found_behind, crate::proofs::Segments::none_behind))]
+pub fn table_place(lent: u64, segments: &[Segment], table: u64) -> Option<usize>
+    ensures { place_of result ≡ place_from 0 (reaching lent (segments_of segments.now)) table }
 {
     let mut first = 0;
-    let mut i = 0;
-    while i + 1 < segments.len() {
-        let base = segments[i];
-        let left = lent - first;
-        let own = segments[i + 1];
-        let words = if own < left { own } else { left };
-        let inside = holds_table(base, words, table);
-        if inside {
-            return Place::At((first + (table - base) / 8) as usize);
+    for segment in segments {
+        let reached = Segment {
+            base: segment.base,
+            words: segment.words.min(lent - first),
+        };
+        if reached.holds(table) {
+            return Some((first + (table - reached.base) / 8) as usize);
         }
-        first += words;
-        i += 2;
+        first += reached.words;
     }
-    Place::Outside
+    None
+}
+
+// What a walk reads: the lent words of an image, the segments that they are, one after the other, and the bits of an entry that the processor reserves.
+#[derive(Clone, Copy)]
+pub struct Tables<'a> {
+    pub words: &'a [u64],
+    pub segments: &'a [Segment],
+    pub reserved: u64,
+}
+
+impl<'a> Tables<'a> {
+    // Where the table at a physical address begins in the words, if it is wholly inside.
+    pub fn place(&self, table: u64) -> Option<usize>
+        ensures { place_of result ≡ place_from 0 (reaching (length self.now.words.now) (segments_of self.now.segments.now)) table }
+    {
+        table_place(self.words.len() as u64, self.segments, table)
+    }
 }

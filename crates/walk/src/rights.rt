@@ -5,14 +5,14 @@ ghost use Rattle.paging.specs.Packed.{rights_bits, rights_from, rights_over};
 ghost use Rattle.walk.specs.Rights.{rights_held};
 
 // Writable and user hold if every level has them, no-execute if some level has it.
-#[derive(Clone, Copy)]
+#[derive(Clone, Copy, Debug, PartialEq, Eq)]
 pub struct Rights {
     pub writable: bool,
     pub user: bool,
     pub no_execute: bool,
 }
 
-// The rights above the root: all.
+// The rights above the root: all. During a walk rights travel as one word, the bits that all words have: a register, and one `&` for an entry.
 pub const ALL_RIGHTS: u64 = u64::MAX;
 
 // A word with bit 63 turned over, so that each of its rights is a bit that every level must have.
@@ -22,20 +22,33 @@ pub fn allows(word: u64) -> u64
     word ^ 0x8000_0000_0000_0000
 }
 
-// The rights as three bits, by the bits that all words of the walk have.
-pub fn rights_bits(all: u64) -> u64
-    ensures { result ≡ rights_bits (rights_over all) }
-{
-    ((all >> 1) & 3) + (1 - (all >> 63)) * 4
-}
+impl Rights {
+    // The rights of a walk, by the bits that all of its words have.
+    pub fn over(all: u64) -> Rights
+        ensures { rights_held result ≡ rights_over all }
+    {
+        Rights {
+            writable: (all >> 1) & 1 == 1,
+            user: (all >> 2) & 1 == 1,
+            no_execute: (all >> 63) & 1 == 0,
+        }
+    }
 
-// The rights of three bits.
-pub fn rights_from(bits: u64) -> Rights
-    ensures { rights_held result ≡ rights_from bits }
-{
-    Rights {
-        writable: bits & 1 == 1,
-        user: (bits >> 1) & 1 == 1,
-        no_execute: (bits >> 2) & 1 == 1,
+    // The rights as bits: 1 writable, 2 user, 4 no-execute.
+    pub fn bits(self) -> u64
+        ensures { result ≡ rights_bits (rights_held self) }
+    {
+        self.writable as u64 + 2 * self.user as u64 + 4 * self.no_execute as u64
+    }
+
+    // The rights of three such bits.
+    pub fn from_bits(bits: u64) -> Rights
+        ensures { rights_held result ≡ rights_from bits }
+    {
+        Rights {
+            writable: bits & 1 == 1,
+            user: (bits >> 1) & 1 == 1,
+            no_execute: (bits >> 2) & 1 == 1,
+        }
     }
 }

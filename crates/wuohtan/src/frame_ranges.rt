@@ -1,4 +1,6 @@
 // Ranges of frames, as numbers: start and end, each with its size in bytes.
+#![tactic(auto, using(convention::proofs::Choice::pairs_of_sizes), unfolding(status::specs::Convention::leaves))]
+
 ghost use Rattle.std.specs.Prelude.{◌≡◌};
 ghost use Rattle.laws.specs.Address.{phys};
 ghost use Rattle.laws.specs.Range.{make_range, empty_below, empty_through, count_below, count_through, bytes_below, bytes_through};
@@ -8,15 +10,11 @@ ghost use Rattle.convention.specs.Choice.{of_size};
 ghost use Rattle.convention.specs.Ranges.{pair, frame_draw_words, frame_draw_inclusive_words, frame_range_at, frame_range_inclusive_at};
 
 use convention::{
-    FrameRangeChoice, FrameRangeInclusiveChoice, choose_frame_range, choose_frame_range_inclusive,
-    give_bool, give_frame_draw, give_frame_draw_inclusive, give_frame_range,
-    give_frame_range_inclusive, give_u64,
+    choose_range, choose_range_inclusive, give_bool, give_draw, give_range, give_range_inclusive,
+    give_word,
 };
-use frame::{
-    PhysFrame, draw_next, draw_next_back, draw_next_back_inclusive, draw_next_inclusive, draw_nth,
-    draw_nth_back, draw_nth_back_inclusive, draw_nth_inclusive,
-};
-use status::NO_SUCH_CHOICE;
+use frame::PhysFrame;
+use status::Status;
 
 pub fn wuohtan_phys_frame_range_new(
     start: u64,
@@ -27,12 +25,10 @@ pub fn wuohtan_phys_frame_range_new(
 ) -> u8
     ensures { left result out.new ≡ leaves (of_size start_size (of_size end_size (pair (make_range (phys 52) start start_size end end_size)))) out.old }
 {
-    let FrameRangeChoice::Range(range) = choose_frame_range(start, start_size, end, end_size) else {
-        return NO_SUCH_CHOICE;
+    let Some(range) = choose_range::<PhysFrame>(start, start_size, end, end_size) else {
+        return Status::NoSuchChoice as u8;
     };
-    let first = range.start;
-    let last = range.end;
-    give_frame_range(PhysFrame::range(first, last), out)
+    give_range(PhysFrame::range(range.start, range.end), out)
 }
 
 pub fn wuohtan_phys_frame_range_is_empty(
@@ -44,8 +40,8 @@ pub fn wuohtan_phys_frame_range_is_empty(
 ) -> u8
     ensures { left result out.new ≡ leaves (of_size start_size (of_size end_size (truth (empty_below (phys 52) start start_size end end_size)))) out.old }
 {
-    let FrameRangeChoice::Range(range) = choose_frame_range(start, start_size, end, end_size) else {
-        return NO_SUCH_CHOICE;
+    let Some(range) = choose_range::<PhysFrame>(start, start_size, end, end_size) else {
+        return Status::NoSuchChoice as u8;
     };
     give_bool(range.is_empty(), out)
 }
@@ -59,10 +55,10 @@ pub fn wuohtan_phys_frame_range_len(
 ) -> u8
     ensures { left result out.new ≡ leaves (of_size start_size (of_size end_size (word (count_below (phys 52) start start_size end end_size)))) out.old }
 {
-    let FrameRangeChoice::Range(range) = choose_frame_range(start, start_size, end, end_size) else {
-        return NO_SUCH_CHOICE;
+    let Some(range) = choose_range::<PhysFrame>(start, start_size, end, end_size) else {
+        return Status::NoSuchChoice as u8;
     };
-    give_u64(range.len(), out)
+    give_word(range.len(), out)
 }
 
 pub fn wuohtan_phys_frame_range_size(
@@ -74,10 +70,10 @@ pub fn wuohtan_phys_frame_range_size(
 ) -> u8
     ensures { left result out.new ≡ leaves (of_size start_size (of_size end_size (word (bytes_below (phys 52) start start_size end end_size)))) out.old }
 {
-    let FrameRangeChoice::Range(range) = choose_frame_range(start, start_size, end, end_size) else {
-        return NO_SUCH_CHOICE;
+    let Some(range) = choose_range::<PhysFrame>(start, start_size, end, end_size) else {
+        return Status::NoSuchChoice as u8;
     };
-    give_u64(range.size(), out)
+    give_word(range.size(), out)
 }
 
 pub fn wuohtan_phys_frame_range_next(
@@ -89,10 +85,11 @@ pub fn wuohtan_phys_frame_range_next(
 ) -> u8
     ensures { left result out.new ≡ leaves (of_size start_size (of_size end_size (frame_draw_words (nth_of (frame_range_at start start_size end end_size) 0)))) out.old }
 {
-    let FrameRangeChoice::Range(range) = choose_frame_range(start, start_size, end, end_size) else {
-        return NO_SUCH_CHOICE;
+    let Some(mut range) = choose_range::<PhysFrame>(start, start_size, end, end_size) else {
+        return Status::NoSuchChoice as u8;
     };
-    give_frame_draw(draw_next(range), out)
+    let answer = range.next();
+    give_draw(answer, range.start, range.end, out)
 }
 
 pub fn wuohtan_phys_frame_range_nth(
@@ -105,10 +102,11 @@ pub fn wuohtan_phys_frame_range_nth(
 ) -> u8
     ensures { left result out.new ≡ leaves (of_size start_size (of_size end_size (frame_draw_words (nth_of (frame_range_at start start_size end end_size) n)))) out.old }
 {
-    let FrameRangeChoice::Range(range) = choose_frame_range(start, start_size, end, end_size) else {
-        return NO_SUCH_CHOICE;
+    let Some(mut range) = choose_range::<PhysFrame>(start, start_size, end, end_size) else {
+        return Status::NoSuchChoice as u8;
     };
-    give_frame_draw(draw_nth(range, n), out)
+    let answer = range.nth(n);
+    give_draw(answer, range.start, range.end, out)
 }
 
 pub fn wuohtan_phys_frame_range_next_back(
@@ -120,10 +118,11 @@ pub fn wuohtan_phys_frame_range_next_back(
 ) -> u8
     ensures { left result out.new ≡ leaves (of_size start_size (of_size end_size (frame_draw_words (nth_back_of (frame_range_at start start_size end end_size) 0)))) out.old }
 {
-    let FrameRangeChoice::Range(range) = choose_frame_range(start, start_size, end, end_size) else {
-        return NO_SUCH_CHOICE;
+    let Some(mut range) = choose_range::<PhysFrame>(start, start_size, end, end_size) else {
+        return Status::NoSuchChoice as u8;
     };
-    give_frame_draw(draw_next_back(range), out)
+    let answer = range.next_back();
+    give_draw(answer, range.start, range.end, out)
 }
 
 pub fn wuohtan_phys_frame_range_nth_back(
@@ -136,10 +135,11 @@ pub fn wuohtan_phys_frame_range_nth_back(
 ) -> u8
     ensures { left result out.new ≡ leaves (of_size start_size (of_size end_size (frame_draw_words (nth_back_of (frame_range_at start start_size end end_size) n)))) out.old }
 {
-    let FrameRangeChoice::Range(range) = choose_frame_range(start, start_size, end, end_size) else {
-        return NO_SUCH_CHOICE;
+    let Some(mut range) = choose_range::<PhysFrame>(start, start_size, end, end_size) else {
+        return Status::NoSuchChoice as u8;
     };
-    give_frame_draw(draw_nth_back(range, n), out)
+    let answer = range.nth_back(n);
+    give_draw(answer, range.start, range.end, out)
 }
 
 pub fn wuohtan_phys_frame_range_inclusive_new(
@@ -151,14 +151,10 @@ pub fn wuohtan_phys_frame_range_inclusive_new(
 ) -> u8
     ensures { left result out.new ≡ leaves (of_size start_size (of_size end_size (pair (make_range (phys 52) start start_size end end_size)))) out.old }
 {
-    let FrameRangeInclusiveChoice::Range(range) = choose_frame_range_inclusive(
-        start, start_size, end, end_size,
-    ) else {
-        return NO_SUCH_CHOICE;
+    let Some(range) = choose_range_inclusive::<PhysFrame>(start, start_size, end, end_size) else {
+        return Status::NoSuchChoice as u8;
     };
-    let first = range.start;
-    let last = range.end;
-    give_frame_range_inclusive(PhysFrame::range_inclusive(first, last), out)
+    give_range_inclusive(PhysFrame::range_inclusive(range.start, range.end), out)
 }
 
 pub fn wuohtan_phys_frame_range_inclusive_is_empty(
@@ -170,10 +166,8 @@ pub fn wuohtan_phys_frame_range_inclusive_is_empty(
 ) -> u8
     ensures { left result out.new ≡ leaves (of_size start_size (of_size end_size (truth (empty_through (phys 52) start start_size end end_size)))) out.old }
 {
-    let FrameRangeInclusiveChoice::Range(range) = choose_frame_range_inclusive(
-        start, start_size, end, end_size,
-    ) else {
-        return NO_SUCH_CHOICE;
+    let Some(range) = choose_range_inclusive::<PhysFrame>(start, start_size, end, end_size) else {
+        return Status::NoSuchChoice as u8;
     };
     give_bool(range.is_empty(), out)
 }
@@ -187,12 +181,10 @@ pub fn wuohtan_phys_frame_range_inclusive_len(
 ) -> u8
     ensures { left result out.new ≡ leaves (of_size start_size (of_size end_size (word (count_through (phys 52) start start_size end end_size)))) out.old }
 {
-    let FrameRangeInclusiveChoice::Range(range) = choose_frame_range_inclusive(
-        start, start_size, end, end_size,
-    ) else {
-        return NO_SUCH_CHOICE;
+    let Some(range) = choose_range_inclusive::<PhysFrame>(start, start_size, end, end_size) else {
+        return Status::NoSuchChoice as u8;
     };
-    give_u64(range.len(), out)
+    give_word(range.len(), out)
 }
 
 pub fn wuohtan_phys_frame_range_inclusive_size(
@@ -204,12 +196,10 @@ pub fn wuohtan_phys_frame_range_inclusive_size(
 ) -> u8
     ensures { left result out.new ≡ leaves (of_size start_size (of_size end_size (word (bytes_through (phys 52) start start_size end end_size)))) out.old }
 {
-    let FrameRangeInclusiveChoice::Range(range) = choose_frame_range_inclusive(
-        start, start_size, end, end_size,
-    ) else {
-        return NO_SUCH_CHOICE;
+    let Some(range) = choose_range_inclusive::<PhysFrame>(start, start_size, end, end_size) else {
+        return Status::NoSuchChoice as u8;
     };
-    give_u64(range.size(), out)
+    give_word(range.size(), out)
 }
 
 pub fn wuohtan_phys_frame_range_inclusive_next(
@@ -221,12 +211,12 @@ pub fn wuohtan_phys_frame_range_inclusive_next(
 ) -> u8
     ensures { left result out.new ≡ leaves (of_size start_size (of_size end_size (frame_draw_inclusive_words (nth_inclusive_of (frame_range_inclusive_at start start_size end end_size) 0)))) out.old }
 {
-    let FrameRangeInclusiveChoice::Range(range) = choose_frame_range_inclusive(
-        start, start_size, end, end_size,
-    ) else {
-        return NO_SUCH_CHOICE;
+    let Some(mut range) = choose_range_inclusive::<PhysFrame>(start, start_size, end, end_size)
+    else {
+        return Status::NoSuchChoice as u8;
     };
-    give_frame_draw_inclusive(draw_next_inclusive(range), out)
+    let answer = range.next();
+    give_draw(answer, range.start, range.end, out)
 }
 
 pub fn wuohtan_phys_frame_range_inclusive_nth(
@@ -239,12 +229,12 @@ pub fn wuohtan_phys_frame_range_inclusive_nth(
 ) -> u8
     ensures { left result out.new ≡ leaves (of_size start_size (of_size end_size (frame_draw_inclusive_words (nth_inclusive_of (frame_range_inclusive_at start start_size end end_size) n)))) out.old }
 {
-    let FrameRangeInclusiveChoice::Range(range) = choose_frame_range_inclusive(
-        start, start_size, end, end_size,
-    ) else {
-        return NO_SUCH_CHOICE;
+    let Some(mut range) = choose_range_inclusive::<PhysFrame>(start, start_size, end, end_size)
+    else {
+        return Status::NoSuchChoice as u8;
     };
-    give_frame_draw_inclusive(draw_nth_inclusive(range, n), out)
+    let answer = range.nth(n);
+    give_draw(answer, range.start, range.end, out)
 }
 
 pub fn wuohtan_phys_frame_range_inclusive_next_back(
@@ -256,12 +246,12 @@ pub fn wuohtan_phys_frame_range_inclusive_next_back(
 ) -> u8
     ensures { left result out.new ≡ leaves (of_size start_size (of_size end_size (frame_draw_inclusive_words (nth_back_inclusive_of (frame_range_inclusive_at start start_size end end_size) 0)))) out.old }
 {
-    let FrameRangeInclusiveChoice::Range(range) = choose_frame_range_inclusive(
-        start, start_size, end, end_size,
-    ) else {
-        return NO_SUCH_CHOICE;
+    let Some(mut range) = choose_range_inclusive::<PhysFrame>(start, start_size, end, end_size)
+    else {
+        return Status::NoSuchChoice as u8;
     };
-    give_frame_draw_inclusive(draw_next_back_inclusive(range), out)
+    let answer = range.next_back();
+    give_draw(answer, range.start, range.end, out)
 }
 
 pub fn wuohtan_phys_frame_range_inclusive_nth_back(
@@ -274,10 +264,10 @@ pub fn wuohtan_phys_frame_range_inclusive_nth_back(
 ) -> u8
     ensures { left result out.new ≡ leaves (of_size start_size (of_size end_size (frame_draw_inclusive_words (nth_back_inclusive_of (frame_range_inclusive_at start start_size end end_size) n)))) out.old }
 {
-    let FrameRangeInclusiveChoice::Range(range) = choose_frame_range_inclusive(
-        start, start_size, end, end_size,
-    ) else {
-        return NO_SUCH_CHOICE;
+    let Some(mut range) = choose_range_inclusive::<PhysFrame>(start, start_size, end, end_size)
+    else {
+        return Status::NoSuchChoice as u8;
     };
-    give_frame_draw_inclusive(draw_nth_back_inclusive(range, n), out)
+    let answer = range.nth_back(n);
+    give_draw(answer, range.start, range.end, out)
 }

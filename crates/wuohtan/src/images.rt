@@ -10,7 +10,7 @@ use addr::VirtAddr;
 use convention::{LISTED_WORDS, give_listed, give_search, give_translation};
 use image::{list, search};
 use phys::PhysAddr;
-use status::NO_ROOM;
+use status::Status;
 use translation::translate;
 
 pub fn wuohtan_translate(image: &[u64], base: u64, root: u64, addr: u64, out: &mut [u64]) -> u8
@@ -44,7 +44,7 @@ pub fn wuohtan_list(
     ensures { (left_list answers.new result out.new ≡ leaves_list (listing 48 4 image.now base root page answers.old) answers.old out.old) × LeftBytes 48 image.now base root page out.old empty_tables.old empty_tables.new }
 {
     if out.len() < LISTED_WORDS {
-        return NO_ROOM;
+        return Status::NoRoom as u8;
     }
     let listed = list(
         image,

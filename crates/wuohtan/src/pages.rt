@@ -1,4 +1,6 @@
 // Pages, as numbers: a start and a size in bytes.
+#![tactic(auto, using(convention::proofs::Choice::levels, convention::proofs::Choice::sizes, convention::proofs::Choice::pairs_of_sizes), unfolding(status::specs::Convention::leaves))]
+
 ghost use Rattle.std.specs.Prelude.{◌≡◌};
 ghost use Rattle.laws.specs.Address.{virt};
 ghost use Rattle.laws.specs.Item.{from_start, containing, start_of, size_of, plus_item, minus_item, distance_item};
@@ -9,95 +11,95 @@ ghost use Rattle.convention.specs.Choice.{at_level, of_size};
 
 use addr::VirtAddr;
 use convention::{
-    PageChoice, PageRangeChoice, SizeChoice, choose_level, choose_page, choose_page_range,
-    choose_size, give_index, give_page, give_u64, give_virt, saturated,
+    choose, choose_level, choose_range, choose_size, give_item, give_item_step, give_step,
+    give_word, saturated,
 };
 use page::Page;
-use status::NO_SUCH_CHOICE;
-use table::{LevelAnswer, PageTableIndex};
+use status::Status;
+use table::UpTo;
 
 pub fn wuohtan_page_from_start_address(address: u64, size: u64, out: &mut [u64]) -> u8
     ensures { left result out.new ≡ leaves (of_size size (start_word (from_start (virt 48) address size))) out.old }
 {
-    let SizeChoice::Size(s) = choose_size(size) else {
-        return NO_SUCH_CHOICE;
+    let Some(s) = choose_size(size) else {
+        return Status::NoSuchChoice as u8;
     };
-    give_page(Page::from_start_address(VirtAddr(address), s), out)
+    give_item(Page::from_start_address(VirtAddr(address), s), out)
 }
 
 pub fn wuohtan_page_containing_address(address: u64, size: u64, out: &mut [u64]) -> u8
     ensures { left result out.new ≡ leaves (of_size size (start_word (containing (virt 48) address size))) out.old }
 {
-    let SizeChoice::Size(s) = choose_size(size) else {
-        return NO_SUCH_CHOICE;
+    let Some(s) = choose_size(size) else {
+        return Status::NoSuchChoice as u8;
     };
-    give_page(Page::containing_address(VirtAddr(address), s), out)
+    give_item(Page::containing_address(VirtAddr(address), s), out)
 }
 
 pub fn wuohtan_page_start_address(start: u64, size: u64, out: &mut [u64]) -> u8
     ensures { left result out.new ≡ leaves (of_size size (word (start_of (virt 48) start size))) out.old }
 {
-    let PageChoice::Page(page) = choose_page(start, size) else {
-        return NO_SUCH_CHOICE;
+    let Some(page) = choose::<Page>(start, size) else {
+        return Status::NoSuchChoice as u8;
     };
-    give_virt(page.start_address(), out)
+    give_word(page.start_address(), out)
 }
 
 pub fn wuohtan_page_size(start: u64, size: u64, out: &mut [u64]) -> u8
     ensures { left result out.new ≡ leaves (of_size size (word (size_of (virt 48) start size))) out.old }
 {
-    let PageChoice::Page(page) = choose_page(start, size) else {
-        return NO_SUCH_CHOICE;
+    let Some(page) = choose::<Page>(start, size) else {
+        return Status::NoSuchChoice as u8;
     };
-    give_u64(page.size(), out)
+    give_word(page.size(), out)
 }
 
 pub fn wuohtan_page_p1_index(start: u64, size: u64, out: &mut [u64]) -> u8
     ensures { left result out.new ≡ leaves (of_size size (word (own_index 48 start size 1))) out.old }
 {
-    let PageChoice::Page(page) = choose_page(start, size) else {
-        return NO_SUCH_CHOICE;
+    let Some(page) = choose::<Page>(start, size) else {
+        return Status::NoSuchChoice as u8;
     };
-    give_index(page.p1_index(), out)
+    give_word(page.p1_index(), out)
 }
 
 pub fn wuohtan_page_p2_index(start: u64, size: u64, out: &mut [u64]) -> u8
     ensures { left result out.new ≡ leaves (of_size size (word (own_index 48 start size 2))) out.old }
 {
-    let PageChoice::Page(page) = choose_page(start, size) else {
-        return NO_SUCH_CHOICE;
+    let Some(page) = choose::<Page>(start, size) else {
+        return Status::NoSuchChoice as u8;
     };
-    give_index(page.p2_index(), out)
+    give_word(page.p2_index(), out)
 }
 
 pub fn wuohtan_page_p3_index(start: u64, size: u64, out: &mut [u64]) -> u8
     ensures { left result out.new ≡ leaves (of_size size (word (page_index 48 start size 3))) out.old }
 {
-    let PageChoice::Page(page) = choose_page(start, size) else {
-        return NO_SUCH_CHOICE;
+    let Some(page) = choose::<Page>(start, size) else {
+        return Status::NoSuchChoice as u8;
     };
-    give_index(page.p3_index(), out)
+    give_word(page.p3_index(), out)
 }
 
 pub fn wuohtan_page_p4_index(start: u64, size: u64, out: &mut [u64]) -> u8
     ensures { left result out.new ≡ leaves (of_size size (word (page_index 48 start size 4))) out.old }
 {
-    let PageChoice::Page(page) = choose_page(start, size) else {
-        return NO_SUCH_CHOICE;
+    let Some(page) = choose::<Page>(start, size) else {
+        return Status::NoSuchChoice as u8;
     };
-    give_index(page.p4_index(), out)
+    give_word(page.p4_index(), out)
 }
 
 pub fn wuohtan_page_page_table_index(start: u64, size: u64, level: u64, out: &mut [u64]) -> u8
     ensures { left result out.new ≡ leaves (of_size size (at_level level (word (page_index 48 start size level)))) out.old }
 {
-    let PageChoice::Page(page) = choose_page(start, size) else {
-        return NO_SUCH_CHOICE;
+    let Some(page) = choose::<Page>(start, size) else {
+        return Status::NoSuchChoice as u8;
     };
-    let LevelAnswer::Level(l) = choose_level(level) else {
-        return NO_SUCH_CHOICE;
+    let Some(l) = choose_level(level) else {
+        return Status::NoSuchChoice as u8;
     };
-    give_index(page.page_table_index(l), out)
+    give_word(page.page_table_index(l), out)
 }
 
 pub fn wuohtan_page_from_page_table_indices(
@@ -109,11 +111,11 @@ pub fn wuohtan_page_from_page_table_indices(
 ) -> u8
     ensures { left result out.new ≡ leaves (start_word (from_indices p4_index p3_index p2_index p1_index)) out.old }
 {
-    let p4 = PageTableIndex(saturated(p4_index));
-    let p3 = PageTableIndex(saturated(p3_index));
-    let p2 = PageTableIndex(saturated(p2_index));
-    let p1 = PageTableIndex(saturated(p1_index));
-    give_page(Page::from_page_table_indices(p4, p3, p2, p1), out)
+    let p4 = UpTo(saturated(p4_index));
+    let p3 = UpTo(saturated(p3_index));
+    let p2 = UpTo(saturated(p2_index));
+    let p1 = UpTo(saturated(p1_index));
+    give_item(Page::from_page_table_indices(p4, p3, p2, p1), out)
 }
 
 pub fn wuohtan_page_from_page_table_indices_2mib(
@@ -124,10 +126,10 @@ pub fn wuohtan_page_from_page_table_indices_2mib(
 ) -> u8
     ensures { left result out.new ≡ leaves (start_word (from_indices_2mib p4_index p3_index p2_index)) out.old }
 {
-    let p4 = PageTableIndex(saturated(p4_index));
-    let p3 = PageTableIndex(saturated(p3_index));
-    let p2 = PageTableIndex(saturated(p2_index));
-    give_page(Page::from_page_table_indices_2mib(p4, p3, p2), out)
+    let p4 = UpTo(saturated(p4_index));
+    let p3 = UpTo(saturated(p3_index));
+    let p2 = UpTo(saturated(p2_index));
+    give_item(Page::from_page_table_indices_2mib(p4, p3, p2), out)
 }
 
 pub fn wuohtan_page_from_page_table_indices_1gib(
@@ -137,27 +139,27 @@ pub fn wuohtan_page_from_page_table_indices_1gib(
 ) -> u8
     ensures { left result out.new ≡ leaves (start_word (from_indices_1gib p4_index p3_index)) out.old }
 {
-    let p4 = PageTableIndex(saturated(p4_index));
-    let p3 = PageTableIndex(saturated(p3_index));
-    give_page(Page::from_page_table_indices_1gib(p4, p3), out)
+    let p4 = UpTo(saturated(p4_index));
+    let p3 = UpTo(saturated(p3_index));
+    give_item(Page::from_page_table_indices_1gib(p4, p3), out)
 }
 
 pub fn wuohtan_page_add(start: u64, size: u64, count: u64, out: &mut [u64]) -> u8
     ensures { left result out.new ≡ leaves (of_size size (start_word (plus_item (virt 48) start size count))) out.old }
 {
-    let PageChoice::Page(page) = choose_page(start, size) else {
-        return NO_SUCH_CHOICE;
+    let Some(page) = choose::<Page>(start, size) else {
+        return Status::NoSuchChoice as u8;
     };
-    give_page(page.add(count), out)
+    give_item(page.add(count), out)
 }
 
 pub fn wuohtan_page_sub(start: u64, size: u64, count: u64, out: &mut [u64]) -> u8
     ensures { left result out.new ≡ leaves (of_size size (start_word (minus_item (virt 48) start size count))) out.old }
 {
-    let PageChoice::Page(page) = choose_page(start, size) else {
-        return NO_SUCH_CHOICE;
+    let Some(page) = choose::<Page>(start, size) else {
+        return Status::NoSuchChoice as u8;
     };
-    give_page(page.sub(count), out)
+    give_item(page.sub(count), out)
 }
 
 pub fn wuohtan_page_sub_page(
@@ -169,30 +171,30 @@ pub fn wuohtan_page_sub_page(
 ) -> u8
     ensures { left result out.new ≡ leaves (of_size size (of_size other_size (word (distance_item (virt 48) start size other other_size)))) out.old }
 {
-    let PageRangeChoice::Range(pages) = choose_page_range(start, size, other, other_size) else {
-        return NO_SUCH_CHOICE;
+    let Some(pages) = choose_range::<Page>(start, size, other, other_size) else {
+        return Status::NoSuchChoice as u8;
     };
     let page = pages.start;
     let other_page = pages.end;
-    give_u64(page.sub_page(other_page), out)
+    give_word(page.sub_page(other_page), out)
 }
 
 pub fn wuohtan_page_forward_checked(start: u64, size: u64, count: u64, out: &mut [u64]) -> u8
     ensures { left result out.new ≡ leaves (of_size size (start_word (page_forward 48 start size count))) out.old }
 {
-    let PageChoice::Page(page) = choose_page(start, size) else {
-        return NO_SUCH_CHOICE;
+    let Some(page) = choose::<Page>(start, size) else {
+        return Status::NoSuchChoice as u8;
     };
-    give_page(Page::forward_checked(page, count), out)
+    give_item_step(Page::forward_checked(page, count), out)
 }
 
 pub fn wuohtan_page_backward_checked(start: u64, size: u64, count: u64, out: &mut [u64]) -> u8
     ensures { left result out.new ≡ leaves (of_size size (start_word (page_backward 48 start size count))) out.old }
 {
-    let PageChoice::Page(page) = choose_page(start, size) else {
-        return NO_SUCH_CHOICE;
+    let Some(page) = choose::<Page>(start, size) else {
+        return Status::NoSuchChoice as u8;
     };
-    give_page(Page::backward_checked(page, count), out)
+    give_item_step(Page::backward_checked(page, count), out)
 }
 
 pub fn wuohtan_page_steps_between_u64(
@@ -204,10 +206,10 @@ pub fn wuohtan_page_steps_between_u64(
 ) -> u8
     ensures { left result out.new ≡ leaves (of_size size (of_size end_size (word (page_steps 48 start size end end_size)))) out.old }
 {
-    let PageRangeChoice::Range(pages) = choose_page_range(start, size, end, end_size) else {
-        return NO_SUCH_CHOICE;
+    let Some(pages) = choose_range::<Page>(start, size, end, end_size) else {
+        return Status::NoSuchChoice as u8;
     };
     let page = pages.start;
     let end_page = pages.end;
-    give_u64(Page::steps_between_u64(page, end_page), out)
+    give_step(Page::steps_between_u64(page, end_page), out)
 }

@@ -1,4 +1,6 @@
 // Table indices, offsets and levels, as numbers.
+#![tactic(auto, using(convention::proofs::Choice::levels), unfolding(status::specs::Convention::leaves))]
+
 ghost use Rattle.std.specs.Prelude.{◌≡◌, [], ◌∷◌, ◌-◌, ◌%◌};
 ghost use Rattle.answer.specs.Outcome.{gives};
 ghost use Rattle.laws.specs.Index.{span};
@@ -7,75 +9,75 @@ ghost use Rattle.table.specs.Level.{lower, higher};
 ghost use Rattle.status.specs.Convention.{left, leaves, word};
 ghost use Rattle.convention.specs.Choice.{at_level};
 
-use convention::{choose_level, give_index, give_level, give_offset, give_u64, saturated};
-use status::{NO_SUCH_CHOICE, give};
-use table::{LevelAnswer, PageOffset, PageTableIndex};
+use convention::{choose_level, give_level, give_step, give_word, saturated};
+use status::{Status, give};
+use table::{PageOffset, PageTableIndex, UpTo};
 
 pub fn wuohtan_page_table_index_new(index: u64, out: &mut [u64]) -> u8
     ensures { left result out.new ≡ leaves (word (small 512 index)) out.old }
 {
-    give_index(PageTableIndex::new(index), out)
+    give_word(PageTableIndex::new(index), out)
 }
 
 pub fn wuohtan_page_table_index_new_truncate(index: u64, out: &mut [u64]) -> u8
     ensures { left result out.new ≡ leaves (gives (index % 512 ∷ [])) out.old }
 {
-    give(PageTableIndex::new_truncate(index).0 as u64, out)
+    give([PageTableIndex::new_truncate(index).0 as u64], out)
 }
 
 pub fn wuohtan_page_table_index_into_u64(index: u64, out: &mut [u64]) -> u8
     ensures { left result out.new ≡ leaves (word (small 512 index)) out.old }
 {
-    let i = PageTableIndex(saturated(index));
-    give_u64(i.into_u64(), out)
+    let i: PageTableIndex = UpTo(saturated(index));
+    give_word(i.into_u64(), out)
 }
 
 pub fn wuohtan_page_table_index_forward_checked(start: u64, count: u64, out: &mut [u64]) -> u8
     ensures { left result out.new ≡ leaves (word (index_forward start count)) out.old }
 {
-    let i = PageTableIndex(saturated(start));
-    give_index(PageTableIndex::forward_checked(i, count), out)
+    let i = UpTo(saturated(start));
+    give_step(PageTableIndex::forward_checked(i, count), out)
 }
 
 pub fn wuohtan_page_table_index_backward_checked(start: u64, count: u64, out: &mut [u64]) -> u8
     ensures { left result out.new ≡ leaves (word (index_backward start count)) out.old }
 {
-    let i = PageTableIndex(saturated(start));
-    give_index(PageTableIndex::backward_checked(i, count), out)
+    let i = UpTo(saturated(start));
+    give_step(PageTableIndex::backward_checked(i, count), out)
 }
 
 pub fn wuohtan_page_table_index_steps_between(start: u64, end: u64, out: &mut [u64]) -> u8
     ensures { left result out.new ≡ leaves (word (index_steps start end)) out.old }
 {
-    let i = PageTableIndex(saturated(start));
-    let j = PageTableIndex(saturated(end));
-    give_u64(PageTableIndex::steps_between(i, j), out)
+    let i = UpTo(saturated(start));
+    let j = UpTo(saturated(end));
+    give_step(PageTableIndex::steps_between(i, j), out)
 }
 
 pub fn wuohtan_page_offset_new(offset: u64, out: &mut [u64]) -> u8
     ensures { left result out.new ≡ leaves (word (small 4096 offset)) out.old }
 {
-    give_offset(PageOffset::new(offset), out)
+    give_word(PageOffset::new(offset), out)
 }
 
 pub fn wuohtan_page_offset_new_truncate(offset: u64, out: &mut [u64]) -> u8
     ensures { left result out.new ≡ leaves (gives (offset % 4096 ∷ [])) out.old }
 {
-    give(PageOffset::new_truncate(offset).0 as u64, out)
+    give([PageOffset::new_truncate(offset).0 as u64], out)
 }
 
 pub fn wuohtan_page_offset_into_u64(offset: u64, out: &mut [u64]) -> u8
     ensures { left result out.new ≡ leaves (word (small 4096 offset)) out.old }
 {
-    let o = PageOffset(saturated(offset));
-    give_u64(o.into_u64(), out)
+    let o: PageOffset = UpTo(saturated(offset));
+    give_word(o.into_u64(), out)
 }
 
 pub fn wuohtan_page_table_level_next_lower_level(level: u64, out: &mut [u64]) -> u8
     ensures { left result out.new ≡ leaves (at_level level (word (lower level))) out.old }
 {
-    let LevelAnswer::Level(l) = choose_level(level) else {
-        return NO_SUCH_CHOICE;
+    let Some(l) = choose_level(level) else {
+        return Status::NoSuchChoice as u8;
     };
     give_level(l.next_lower_level(), out)
 }
@@ -83,8 +85,8 @@ pub fn wuohtan_page_table_level_next_lower_level(level: u64, out: &mut [u64]) ->
 pub fn wuohtan_page_table_level_next_higher_level(level: u64, out: &mut [u64]) -> u8
     ensures { left result out.new ≡ leaves (at_level level (word (higher 4 level))) out.old }
 {
-    let LevelAnswer::Level(l) = choose_level(level) else {
-        return NO_SUCH_CHOICE;
+    let Some(l) = choose_level(level) else {
+        return Status::NoSuchChoice as u8;
     };
     give_level(l.next_higher_level(), out)
 }
@@ -92,17 +94,17 @@ pub fn wuohtan_page_table_level_next_higher_level(level: u64, out: &mut [u64]) -
 pub fn wuohtan_page_table_level_table_address_space_alignment(level: u64, out: &mut [u64]) -> u8
     ensures { left result out.new ≡ leaves (at_level level (gives (span level ∷ []))) out.old }
 {
-    let LevelAnswer::Level(l) = choose_level(level) else {
-        return NO_SUCH_CHOICE;
+    let Some(l) = choose_level(level) else {
+        return Status::NoSuchChoice as u8;
     };
-    give(l.table_address_space_alignment(), out)
+    give([l.table_address_space_alignment()], out)
 }
 
 pub fn wuohtan_page_table_level_entry_address_space_alignment(level: u64, out: &mut [u64]) -> u8
     ensures { left result out.new ≡ leaves (at_level level (gives (span (level - 1) ∷ []))) out.old }
 {
-    let LevelAnswer::Level(l) = choose_level(level) else {
-        return NO_SUCH_CHOICE;
+    let Some(l) = choose_level(level) else {
+        return Status::NoSuchChoice as u8;
     };
-    give(l.entry_address_space_alignment(), out)
+    give([l.entry_address_space_alignment()], out)
 }

@@ -1,4 +1,6 @@
 // Virtual addresses, as numbers.
+#![tactic(auto, using(convention::proofs::Choice::levels), unfolding(status::specs::Convention::leaves))]
+
 ghost use Rattle.std.specs.Prelude.{◌≡◌, [], ◌∷◌};
 ghost use Rattle.answer.specs.Outcome.{gives};
 ghost use Rattle.laws.specs.Width.{sign_extend};
@@ -7,38 +9,37 @@ ghost use Rattle.status.specs.Convention.{left, leaves, word, truth};
 ghost use Rattle.convention.specs.Choice.{at_level};
 
 use addr::VirtAddr;
-use convention::{choose_level, give_bool, give_index, give_offset, give_u64, give_virt};
-use status::{NO_SUCH_CHOICE, give};
-use table::LevelAnswer;
+use convention::{choose_level, give_bool, give_step, give_word};
+use status::{Status, give};
 
 pub fn wuohtan_virt_addr_new(addr: u64, out: &mut [u64]) -> u8
     ensures { left result out.new ≡ leaves (word (address (virt 48) addr)) out.old }
 {
-    give_virt(VirtAddr::new(addr), out)
+    give_word(VirtAddr::new(addr), out)
 }
 
 pub fn wuohtan_virt_addr_try_new(addr: u64, out: &mut [u64]) -> u8
     ensures { left result out.new ≡ leaves (word (address (virt 48) addr)) out.old }
 {
-    give_virt(VirtAddr::try_new(addr), out)
+    give_word(VirtAddr::try_new(addr), out)
 }
 
 pub fn wuohtan_virt_addr_new_truncate(addr: u64, out: &mut [u64]) -> u8
     ensures { left result out.new ≡ leaves (gives (sign_extend 48 addr ∷ [])) out.old }
 {
-    give(VirtAddr::new_truncate(addr).0, out)
+    give([VirtAddr::new_truncate(addr).0], out)
 }
 
 pub fn wuohtan_virt_addr_zero(out: &mut [u64]) -> u8
     ensures { left result out.new ≡ leaves (gives (0 ∷ [])) out.old }
 {
-    give(VirtAddr::zero().0, out)
+    give([VirtAddr::zero().0], out)
 }
 
 pub fn wuohtan_virt_addr_as_u64(addr: u64, out: &mut [u64]) -> u8
     ensures { left result out.new ≡ leaves (word (address (virt 48) addr)) out.old }
 {
-    give_u64(VirtAddr(addr).as_u64(), out)
+    give_word(VirtAddr(addr).as_u64(), out)
 }
 
 pub fn wuohtan_virt_addr_is_null(addr: u64, out: &mut [u64]) -> u8
@@ -50,13 +51,13 @@ pub fn wuohtan_virt_addr_is_null(addr: u64, out: &mut [u64]) -> u8
 pub fn wuohtan_virt_addr_align_up(addr: u64, align: u64, out: &mut [u64]) -> u8
     ensures { left result out.new ≡ leaves (word (align_up_virt 48 addr align)) out.old }
 {
-    give_virt(VirtAddr(addr).align_up(align), out)
+    give_word(VirtAddr(addr).align_up(align), out)
 }
 
 pub fn wuohtan_virt_addr_align_down(addr: u64, align: u64, out: &mut [u64]) -> u8
     ensures { left result out.new ≡ leaves (word (align_down_virt 48 addr align)) out.old }
 {
-    give_virt(VirtAddr(addr).align_down(align), out)
+    give_word(VirtAddr(addr).align_down(align), out)
 }
 
 pub fn wuohtan_virt_addr_is_aligned(addr: u64, align: u64, out: &mut [u64]) -> u8
@@ -68,37 +69,37 @@ pub fn wuohtan_virt_addr_is_aligned(addr: u64, align: u64, out: &mut [u64]) -> u
 pub fn wuohtan_virt_addr_add(addr: u64, count: u64, out: &mut [u64]) -> u8
     ensures { left result out.new ≡ leaves (word (plus (virt 48) addr count)) out.old }
 {
-    give_virt(VirtAddr(addr).add(count), out)
+    give_word(VirtAddr(addr).add(count), out)
 }
 
 pub fn wuohtan_virt_addr_sub(addr: u64, count: u64, out: &mut [u64]) -> u8
     ensures { left result out.new ≡ leaves (word (minus (virt 48) addr count)) out.old }
 {
-    give_virt(VirtAddr(addr).sub(count), out)
+    give_word(VirtAddr(addr).sub(count), out)
 }
 
 pub fn wuohtan_virt_addr_sub_addr(addr: u64, other: u64, out: &mut [u64]) -> u8
     ensures { left result out.new ≡ leaves (word (distance (virt 48) addr other)) out.old }
 {
-    give_u64(VirtAddr(addr).sub_addr(VirtAddr(other)), out)
+    give_word(VirtAddr(addr).sub_addr(VirtAddr(other)), out)
 }
 
 pub fn wuohtan_virt_addr_forward_checked_u64(start: u64, count: u64, out: &mut [u64]) -> u8
     ensures { left result out.new ≡ leaves (word (forward_from 48 start count)) out.old }
 {
-    give_virt(VirtAddr::forward_checked_u64(VirtAddr(start), count), out)
+    give_step(VirtAddr::forward_checked_u64(VirtAddr(start), count), out)
 }
 
 pub fn wuohtan_virt_addr_backward_checked_u64(start: u64, count: u64, out: &mut [u64]) -> u8
     ensures { left result out.new ≡ leaves (word (backward_from 48 start count)) out.old }
 {
-    give_virt(VirtAddr::backward_checked_u64(VirtAddr(start), count), out)
+    give_step(VirtAddr::backward_checked_u64(VirtAddr(start), count), out)
 }
 
 pub fn wuohtan_virt_addr_steps_between_u64(start: u64, end: u64, out: &mut [u64]) -> u8
     ensures { left result out.new ≡ leaves (word (steps_between 48 start end)) out.old }
 {
-    give_u64(
+    give_step(
         VirtAddr::steps_between_u64(VirtAddr(start), VirtAddr(end)),
         out,
     )
@@ -107,38 +108,38 @@ pub fn wuohtan_virt_addr_steps_between_u64(start: u64, end: u64, out: &mut [u64]
 pub fn wuohtan_virt_addr_page_offset(addr: u64, out: &mut [u64]) -> u8
     ensures { left result out.new ≡ leaves (word (page_offset 48 addr)) out.old }
 {
-    give_offset(VirtAddr(addr).page_offset(), out)
+    give_word(VirtAddr(addr).page_offset(), out)
 }
 
 pub fn wuohtan_virt_addr_p1_index(addr: u64, out: &mut [u64]) -> u8
     ensures { left result out.new ≡ leaves (word (table_index 48 addr 1)) out.old }
 {
-    give_index(VirtAddr(addr).p1_index(), out)
+    give_word(VirtAddr(addr).p1_index(), out)
 }
 
 pub fn wuohtan_virt_addr_p2_index(addr: u64, out: &mut [u64]) -> u8
     ensures { left result out.new ≡ leaves (word (table_index 48 addr 2)) out.old }
 {
-    give_index(VirtAddr(addr).p2_index(), out)
+    give_word(VirtAddr(addr).p2_index(), out)
 }
 
 pub fn wuohtan_virt_addr_p3_index(addr: u64, out: &mut [u64]) -> u8
     ensures { left result out.new ≡ leaves (word (table_index 48 addr 3)) out.old }
 {
-    give_index(VirtAddr(addr).p3_index(), out)
+    give_word(VirtAddr(addr).p3_index(), out)
 }
 
 pub fn wuohtan_virt_addr_p4_index(addr: u64, out: &mut [u64]) -> u8
     ensures { left result out.new ≡ leaves (word (table_index 48 addr 4)) out.old }
 {
-    give_index(VirtAddr(addr).p4_index(), out)
+    give_word(VirtAddr(addr).p4_index(), out)
 }
 
 pub fn wuohtan_virt_addr_page_table_index(addr: u64, level: u64, out: &mut [u64]) -> u8
     ensures { left result out.new ≡ leaves (at_level level (word (table_index 48 addr level))) out.old }
 {
-    let LevelAnswer::Level(l) = choose_level(level) else {
-        return NO_SUCH_CHOICE;
+    let Some(l) = choose_level(level) else {
+        return Status::NoSuchChoice as u8;
     };
-    give_index(VirtAddr(addr).page_table_index(l), out)
+    give_word(VirtAddr(addr).page_table_index(l), out)
 }

@@ -1,6 +1,6 @@
--- `forget` clears the bytes: those before `i` are zero.
+-- `forget` clears the bytes: those before the index are zero.
 use Rattle.std.proofs.Common.{◌≡◌, take, replicate}
 use Rattle.empty_tables.proofs.empty_tables.forget.Given as goal
 
-abbrev pub invariant-loop-i : goal.invariant-loop-i
-invariant-loop-i l = take l.i l.bytes ≡ replicate l.i 0
+abbrev pub invariant-loop-byte : goal.invariant-loop-byte
+invariant-loop-byte l = take l.byte-index l.bytes ≡ replicate l.byte-index 0

@@ -7,7 +7,7 @@ use Rattle.paging.specs.Pages.{Alike}
 use Rattle.image.proofs.pages.alike.Given as goal
 
 abbrev pub invariant-loop-i : goal.invariant-loop-i
-invariant-loop-i l = Alike l.table l.from l.mask l.step l.reserved l.i × (l.due ≡ bit_and (get_or l.table l.from 0) l.mask + (l.i - l.from - 1) * l.step)
-
-abbrev pub decreases-loop-i : goal.decreases-loop-i
-decreases-loop-i l = 512 - l.i
+invariant-loop-i l = record {
+  passed : Alike l.table l.from l.mask l.step l.reserved l.i;
+  last : l.due ≡ bit_and (get_or l.table l.from 0) l.mask + (l.i - l.from - 1) * l.step;
+}

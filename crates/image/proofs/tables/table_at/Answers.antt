@@ -2,5 +2,5 @@
 use native.Mathlib.Nat.{add-sub_cancel_left}
 use Rattle.image.proofs.tables.table_at.Goals as goal
 
-pub returns : goal.returns
-returns c = rw add-sub_cancel_left
+pub returns-clause-part : goal.returns-clause-part
+returns-clause-part c = rw add-sub_cancel_left

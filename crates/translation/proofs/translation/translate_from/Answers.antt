@@ -1,35 +1,18 @@
 -- `translate_from` meets its contract.
-use Prim.Native.Nat.{ℕ}
-use mathlib.Core.Path.{◌≡◌, sym, ap, ◌∙◌}
+use mathlib.Core.Path.{sym, subst}
 use native.Mathlib.Omega.{arith}
-use Rattle.mapping.specs.Walk.{Walked, walk, all_rights}
-use Rattle.addr.specs.Widths.{width_of, levels_of}
+use Rattle.mapping.specs.Walk.{Walked, all_rights}
 use Rattle.addr.proofs.Widths.{few-levels}
-use Rattle.paging.specs.Entry.{entry_by}
-use Rattle.paging.specs.Memory.{segments_in, table_from, table_in}
-use Rattle.paging.specs.Packed.{packed}
-use Rattle.paging.specs.Translate.{page_number}
+use Rattle.paging.specs.Memory.{table_from, table_in}
+use Rattle.paging.specs.Packed.{Fits}
+use Rattle.walk.specs.Segments.{segments_of}
 use Rattle.walk.proofs.Walked.{fits}
 use Rattle.translation.proofs.translation.translate_from.Goals as goal
 
-pub returns-then-not-is_canonical : goal.returns-then-not-is_canonical
-returns-then-not-is_canonical c = simp (sym c.if-not-is_canonical.ensures)
-
-pub walk_table-found-requires : goal.walk_table-found-requires
-walk_table-found-requires c =
-    let b = few-levels c.args.width in
-    (omega (arith, b.0, c.levels.ensures), omega (arith, b.1, c.levels.ensures), c.requires)
-
-pub returns : goal.returns
-returns c =
-    let a = c.args in
-    let memory = table_in (segments_in a.segments.now) a.words.now in
-    let t = table_from a.words.now a.root in
-    let by : ℕ → ℕ → Walked = λ n x. walk (entry_by a.reserved) memory n t all_rights x in
-    let n = levels_of a.width in
-    let x = page_number (width_of a.width) a.addr in
-    let w : c.walk_table-found.result ≡ packed (by c.levels.result c.page_number-page.result) = c.walk_table-found.ensures in
-    let e : c.walk_table-found.result ≡ packed (by n x)
-    = w ∙ ap (λ (m : ℕ). packed (by m c.page_number-page.result)) c.levels.ensures ∙ ap (λ (y : ℕ). packed (by n y)) c.page_number-page.ensures in
-    let h = c.answer_for.ensures (by n x) (fits a.reserved memory n t all_rights x (few-levels a.width).1) (sym e) in
-    rw (sym c.if-not-is_canonical.ensures) h
+-- a level is below 8, a page is mapped at level 1, 2 or 3, its frame is below 2^40
+pub answer_for-requires : goal.answer_for-requires
+answer_for-requires c =
+    let t = c.args.tables.now in
+    let words = t.words.now in
+    subst (λ (w : Walked). Fits w) (sym c.walk_table.ensures)
+    (fits t.reserved (table_in (segments_of t.segments.now) words) c.levels.result (table_from words c.args.root) all_rights c.page_number.result (omega (arith, c.levels.ensures, (few-levels c.args.width).1)))

@@ -4,7 +4,7 @@ use mathlib.Core.Path.{◌≡◌, sym, ap, ◌∙◌}
 use native.Mathlib.Omega.{arith}
 use native.Mathlib.Nat.{one-mul, mod-eq_of_lt}
 use lib.Bits.{bit_and, and_mask}
-use lib.Pow.{pow_pos, pow-lt, pow_mono}
+use lib.Pow.{pow-lt, pow_mono}
 use Rattle.mapping.specs.Walk.{span_pages}
 use Rattle.walk.proofs.span.within_span.Goals as goal
 
@@ -20,9 +20,6 @@ pages below l =
     let n = 9 * below in
     let b : 1 * 2 ^ n < 2 ^ 64 = rw (one-mul (2 ^ n)) (pow-lt {i = n} {j = 64} (omega (arith, l))) in
     mod-eq_of_lt b ∙ one-mul (2 ^ n)
-
-pub overflow_sub-result : goal.overflow_sub-result
-overflow_sub-result c = omega (arith, pages c.args.below c.if-below-ge8.false, pow_pos (9 * c.args.below))
 
 pub returns : goal.returns
 returns c =

@@ -1,11 +1,8 @@
 -- `wuohtan_phys_frame_sub` meets its contract.
-use Rattle.convention.proofs.Choice.{size-chosen, size-missing}
+use Rattle.convention.proofs.Choice.{size-chosen}
 use Rattle.wuohtan.proofs.frames.wuohtan_phys_frame_sub.Goals as goal
-
-pub returns-in_default : goal.returns-in_default
-returns-in_default c = size-missing c.args.size _ c.in_default.ensures _ _
 
 pub returns : goal.returns
 returns c =
-    let s = size-chosen c.args.size _ _ c.in-Frame.ensures in
-    simp s.is-size (rw (c.sub.ensures, s.read, s.bytes) at c.give_frame.ensures)
+    let s = size-chosen c.args.size _ _ c.in-Some.ensures in
+    simp s.is-size (rw (c.sub.ensures, s.read, s.bytes) at c.give_item.ensures)

@@ -1,11 +1,8 @@
 -- `wuohtan_phys_frame_sub_frame` meets its contract.
-use Rattle.convention.proofs.Choice.{sizes-chosen, sizes-missing}
+use Rattle.convention.proofs.Choice.{sizes-chosen}
 use Rattle.wuohtan.proofs.frames.wuohtan_phys_frame_sub_frame.Goals as goal
-
-pub returns-in_default : goal.returns-in_default
-returns-in_default c = sizes-missing c.args.size c.args.other_size _ c.in_default.ensures _ _
 
 pub returns : goal.returns
 returns c =
-    let s = sizes-chosen c.args.size c.args.other_size _ _ c.in-Range.ensures in
-    simp (s.are-sizes.0, s.are-sizes.1) (rw (c.sub_frame.ensures, s.read, s.bytes.0, s.bytes.1) at c.give_u64.ensures)
+    let s = sizes-chosen c.args.size c.args.other_size _ _ c.in-Some.ensures in
+    simp (s.are-sizes.0, s.are-sizes.1) (rw (c.sub_frame.ensures, s.read, s.bytes.0, s.bytes.1) at c.give_word.ensures)

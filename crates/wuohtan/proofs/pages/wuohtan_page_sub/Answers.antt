@@ -1,11 +1,8 @@
 -- `wuohtan_page_sub` meets its contract.
-use Rattle.convention.proofs.Choice.{size-chosen, size-missing}
+use Rattle.convention.proofs.Choice.{size-chosen}
 use Rattle.wuohtan.proofs.pages.wuohtan_page_sub.Goals as goal
-
-pub returns-in_default : goal.returns-in_default
-returns-in_default c = size-missing c.args.size _ c.in_default.ensures _ _
 
 pub returns : goal.returns
 returns c =
-    let s = size-chosen c.args.size _ _ c.in-Page.ensures in
-    simp s.is-size (rw (c.sub.ensures, s.read, s.bytes) at c.give_page.ensures)
+    let s = size-chosen c.args.size _ _ c.in-Some.ensures in
+    simp s.is-size (rw (c.sub.ensures, s.read, s.bytes) at c.give_item.ensures)

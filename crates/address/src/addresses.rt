@@ -1,0 +1,69 @@
+// A space of addresses: the virtual ones of a width, or the physical ones.
+ghost use Rattle.std.specs.Prelude.{◌≡◌, ◌≢◌};
+ghost use Rattle.answer.specs.Answers.{u64_of, bool_of};
+ghost use Rattle.laws.specs.Address as laws;
+ghost use Rattle.laws.specs.Address.{address, resulting, is_null, is_aligned, plus, minus, distance};
+
+use align::is_aligned;
+use answer::Refusal;
+
+pub trait Addresses: Copy {
+    // Which numbers are addresses, and the refusals.
+    ghost space: { Self → laws.Addresses };
+
+    // The number of an address handed in; refused if it is none.
+    fn argument(self, addr: u64) -> Result<u64, Refusal>
+        ensures { u64_of result ≡ address (space self) addr };
+
+    // A number that a call comes to; refused if it is no address.
+    fn outcome(self, addr: u64) -> Result<u64, Refusal>
+        ensures { u64_of result ≡ resulting (space self) addr };
+
+    // A law: what refuses an argument is no 0, which stands for no refusal.
+    ghost numbered: { (s : Self) → (space s).argument ≢ 0 };
+
+    // Whether the address is 0.
+    final fn is_null(self, addr: u64) -> Result<bool, Refusal>
+        ensures { bool_of result ≡ is_null (space self) addr }
+    {
+        Ok(self.argument(addr)? == 0)
+    }
+
+    // Whether the address is a multiple of the alignment; 4 if that is no power of two.
+    final fn is_aligned(self, addr: u64, align: u64) -> Result<bool, Refusal>
+        ensures { bool_of result ≡ is_aligned (space self) addr align }
+    {
+        is_aligned(self.argument(addr)?, align)
+    }
+
+    // The address count bytes on, by the numbers; 5 beyond 64 bits.
+    final fn plus(self, addr: u64, count: u64) -> Result<u64, Refusal>
+        ensures { u64_of result ≡ plus (space self) addr count }
+    {
+        let sum = self
+            .argument(addr)?
+            .checked_add(count)
+            .ok_or(Refusal::Overflow)?;
+        self.outcome(sum)
+    }
+
+    // The address count bytes back, by the numbers; 5 below zero.
+    final fn minus(self, addr: u64, count: u64) -> Result<u64, Refusal>
+        ensures { u64_of result ≡ minus (space self) addr count }
+    {
+        let difference = self
+            .argument(addr)?
+            .checked_sub(count)
+            .ok_or(Refusal::Overflow)?;
+        self.outcome(difference)
+    }
+
+    // How far addr is above other, by their numbers; 5 if it is below.
+    final fn distance(self, addr: u64, other: u64) -> Result<u64, Refusal>
+        ensures { u64_of result ≡ distance (space self) addr other }
+    {
+        let addr = self.argument(addr)?;
+        let other = self.argument(other)?;
+        addr.checked_sub(other).ok_or(Refusal::Overflow)
+    }
+}

@@ -1,7 +1,0 @@
--- `give_page_range_inclusive` meets its contract.
-use Rattle.status.specs.Convention.{leaves}
-use Rattle.convention.proofs.ranges.give_page_range_inclusive.Goals as goal
-
-pub returns-in-Refused : goal.returns-in-Refused
-unfolding leaves
-returns-in-Refused c = rw c.in-Refused.is

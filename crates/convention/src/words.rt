@@ -1,0 +1,54 @@
+// What the C interface tells in one word.
+ghost use Rattle.std.specs.Prelude.{◌≡◌, ℕ};
+ghost use Rattle.table.specs.Level.{level_of};
+
+use addr::VirtAddr;
+use phys::PhysAddr;
+use table::{PageTableLevel, UpTo};
+
+pub trait Word: Copy {
+    ghost word_of: { Self → ℕ };
+
+    fn word(self) -> u64
+        ensures { result ≡ word_of self };
+}
+
+impl Word for u64 {
+    ghost word_of = { λ n. n };
+
+    fn word(self) -> u64 {
+        self
+    }
+}
+
+impl Word for VirtAddr {
+    ghost word_of = { λ a. a.0 };
+
+    fn word(self) -> u64 {
+        self.0
+    }
+}
+
+impl Word for PhysAddr {
+    ghost word_of = { λ a. a.0 };
+
+    fn word(self) -> u64 {
+        self.0
+    }
+}
+
+impl<const LAST: u16> Word for UpTo<LAST> {
+    ghost word_of = { λ i. i.0 };
+
+    fn word(self) -> u64 {
+        self.0 as u64
+    }
+}
+
+impl Word for PageTableLevel {
+    ghost word_of = { level_of };
+
+    fn word(self) -> u64 {
+        self.number() as u64
+    }
+}

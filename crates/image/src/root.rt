@@ -1,0 +1,24 @@
+// The root of a search over one image.
+ghost use Rattle.std.specs.Prelude.{◌≡◌};
+ghost use Rattle.walk.specs.Segments.{segments_of};
+ghost use Rattle.image.specs.Root.{Rooted, whole};
+
+use addr::{VirtAddr, Width};
+use answer::Refusal;
+use phys::PhysAddr;
+use walk::{Segment, image_place, search_place};
+
+// The place of the root: base 2, 3; root 2, 3; 14; then 1 and 3 of the page.
+pub(crate) fn search_root(
+    image: &[u64],
+    segments: &[Segment],
+    base: PhysAddr,
+    root: PhysAddr,
+    page: VirtAddr,
+) -> Result<usize, Refusal>
+    requires { segments_of segments.now ≡ whole image.now base.0 }
+    ensures { Rooted image.now base.0 root.0 page.0 result }
+{
+    let place = image_place(image.len() as u64, segments, base.0, root.0);
+    search_place(place, Width::Bits48, page.0)
+}

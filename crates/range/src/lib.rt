@@ -1,0 +1,10 @@
+// Ranges of pages and of frames: one type for those without their end and one for those with it.
+#![tactic(auto)]
+
+mod range;
+mod range_inclusive;
+mod range_item;
+
+pub use range::Range;
+pub use range_inclusive::RangeInclusive;
+pub use range_item::RangeItem;

@@ -1,0 +1,93 @@
+// A range of pages or of frames, without its end.
+ghost use Rattle.std.specs.Prelude.{◌≡◌};
+ghost use Rattle.answer.specs.Answers.{bool_of, u64_of, outcome_of};
+ghost use Rattle.laws.specs.Range.{make_range, empty_below, count_below, bytes_below};
+ghost use Rattle.laws.specs.Kind.{settled};
+ghost use Rattle.draw.specs.Draws.{draw_of};
+ghost use Rattle.range.specs.Ranges.{ends_of, made, answered, nth_of};
+
+use crate::range_item::RangeItem;
+use answer::Refusal;
+use draw::Draw;
+use item::{bytes_below, check_both, count_below, is_empty_below};
+
+#[derive(Clone, Copy, Debug, PartialEq, Eq)]
+pub struct Range<T> {
+    pub start: T,
+    pub end: T,
+}
+
+#[tactic(auto, using(laws::proofs::Kind::guarded_gives, laws::proofs::Kind::guarded_refuses))]
+impl<T: RangeItem> Range<T> {
+    // The range from start to end; 7 if their sizes differ.
+    pub fn new(start: T, end: T) -> Result<Range<T>, Refusal>
+        ensures { outcome_of (ends_of T.kind) result ≡ make_range T.addresses (T.kind.item start).start (T.kind.item start).bytes (T.kind.item end).start (T.kind.item end).bytes }
+    {
+        check_both(T::space(), start.item(), end.item())?;
+        Ok(Range { start, end })
+    }
+
+    pub fn is_empty(self) -> Result<bool, Refusal>
+        ensures { bool_of result ≡ empty_below T.addresses (T.kind.item self.start).start (T.kind.item self.start).bytes (T.kind.item self.end).start (T.kind.item self.end).bytes }
+    {
+        is_empty_below(T::space(), self.start.item(), self.end.item())
+    }
+
+    // How many items the range has.
+    pub fn len(self) -> Result<u64, Refusal>
+        ensures { u64_of result ≡ count_below T.addresses (T.kind.item self.start).start (T.kind.item self.start).bytes (T.kind.item self.end).start (T.kind.item self.end).bytes }
+    {
+        count_below(T::space(), self.start.item(), self.end.item())
+    }
+
+    // How many bytes the range has.
+    pub fn size(self) -> Result<u64, Refusal>
+        ensures { u64_of result ≡ bytes_below T.addresses (T.kind.item self.start).start (T.kind.item self.start).bytes (T.kind.item self.end).start (T.kind.item self.end).bytes }
+    {
+        bytes_below(T::space(), self.start.item(), self.end.item())
+    }
+
+    // What a draw on the numbers gives; leaves the range after it.
+    fn settle(&mut self, draw: Draw) -> Option<T>
+        ensures { answered T.kind (Ok result) self.new ≡ settled T.kind made self.old.start self.old.end (draw_of draw) }
+    {
+        let start = self.start;
+        *self = Range {
+            start: start.placed(draw.start),
+            end: self.end.placed(draw.end),
+        };
+        draw.item.map(|a| start.placed(a))
+    }
+
+    // The first item; leaves the range from just past it.
+    pub fn next(&mut self) -> Result<Option<T>, Refusal>
+        ensures { answered T.kind result self.new ≡ nth_of T.kind T.nth_below self.old 0 }
+    {
+        let draw = T::draw_next_below(self.start.item(), self.end.item())?;
+        Ok(self.settle(draw))
+    }
+
+    // The item n places from the front; leaves the range from just past it.
+    pub fn nth(&mut self, n: u64) -> Result<Option<T>, Refusal>
+        ensures { answered T.kind result self.new ≡ nth_of T.kind T.nth_below self.old n }
+    {
+        let draw = T::draw_nth_below(self.start.item(), self.end.item(), n)?;
+        Ok(self.settle(draw))
+    }
+
+    // The last item; leaves the range up to it.
+    pub fn next_back(&mut self) -> Result<Option<T>, Refusal>
+        ensures { answered T.kind result self.new ≡ nth_of T.kind T.nth_back_below self.old 0 }
+    {
+        let draw = T::draw_next_back_below(self.start.item(), self.end.item())?;
+        Ok(self.settle(draw))
+    }
+
+    // The item n places from the back; leaves the range up to it.
+    pub fn nth_back(&mut self, n: u64) -> Result<Option<T>, Refusal>
+        ensures { answered T.kind result self.new ≡ nth_of T.kind T.nth_back_below self.old n }
+    {
+        let draw = T::draw_nth_back_below(self.start.item(), self.end.item(), n)?;
+        Ok(self.settle(draw))
+    }
+}

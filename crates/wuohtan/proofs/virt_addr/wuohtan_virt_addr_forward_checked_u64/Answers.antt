@@ -1,6 +1,0 @@
--- `wuohtan_virt_addr_forward_checked_u64` meets its contract.
-use Rattle.wuohtan.proofs.virt_addr.wuohtan_virt_addr_forward_checked_u64.Goals as goal
-
-pub returns : goal.returns
-returns c =
-    rw c.forward_checked_u64.ensures at c.give_virt.ensures

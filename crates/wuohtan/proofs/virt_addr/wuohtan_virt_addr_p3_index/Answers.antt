@@ -1,6 +1,0 @@
--- `wuohtan_virt_addr_p3_index` meets its contract.
-use Rattle.wuohtan.proofs.virt_addr.wuohtan_virt_addr_p3_index.Goals as goal
-
-pub returns : goal.returns
-returns c =
-    rw c.p3_index.ensures at c.give_index.ensures

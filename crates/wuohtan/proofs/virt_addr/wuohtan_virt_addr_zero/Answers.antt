@@ -1,5 +1,0 @@
--- `wuohtan_virt_addr_zero` meets its contract.
-use Rattle.wuohtan.proofs.virt_addr.wuohtan_virt_addr_zero.Goals as goal
-
-pub returns : goal.returns
-returns c = rw c.zero.ensures at c.give.ensures
