@@ -5,6 +5,8 @@
 // plain data, and nothing but the call itself tests what it holds.
 #![tactic(auto)]
 
+// The methods have the source's names at a type of its own, a line each; what virtual addresses share with
+// physical ones is written once, in `address`.
 mod virt_addr;
 mod width;
 

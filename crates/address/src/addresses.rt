@@ -11,7 +11,8 @@ pub trait Addresses: Copy {
     // Which numbers are addresses, and the refusals.
     ghost space: { Self → laws.Addresses };
 
-    // The number of an address handed in; refused if it is none.
+    // The number of an address handed in; refused if it is none. Two methods and no test beside two
+    // refusals: each hands the number on, so that `?` does the rest.
     fn argument(self, addr: u64) -> Result<u64, Refusal>
         ensures { u64_of result ≡ address (space self) addr };
 

@@ -9,7 +9,7 @@ use crate::items::ItemAt;
 use range::{Range, RangeInclusive};
 use table::{PageSize, PageTableLevel};
 
-// The level with this number.
+// The level with this number. An Option and no TryFrom: what C is told of a number that is none is a status.
 #[tactic(auto, using(std::proofs::lemmas::Bool::Decides::nat_tests), unfolding(crate::specs::Choice::is_level))]
 pub fn choose_level(level: u64) -> Option<PageTableLevel>
     ensures { level_answer_of result ≡ only_if (is_level level) level }
@@ -43,7 +43,7 @@ pub fn choose<T: ItemAt>(start: u64, size: u64) -> Option<T>
     Some(T::at(choose_size(size)?, start))
 }
 
-// The range from one to another.
+// The range from one to another; the inclusive one is another type.
 pub fn choose_range<T: ItemAt>(
     start: u64,
     start_size: u64,

@@ -1,4 +1,5 @@
-// Pages and frames as the C interface has them: a start and a size.
+// Pages and frames as the C interface has them: a start and a size. The clauses of its calls name `page_at`
+// and `frame_at`, so the trait is over these, beside `From<Item>`.
 ghost use Rattle.std.specs.Prelude.{◌≡◌, ℕ};
 ghost use Rattle.table.specs.declared.size.PageSize.{PageSize};
 ghost use Rattle.frame.specs.Frame.{frame_at};

@@ -1,4 +1,4 @@
-// Ranges and draws, stored.
+// Ranges and draws, stored. The two types of ranges have a function each.
 #![tactic(auto, unfolding(status::specs::Convention::leaves))]
 
 ghost use Rattle.std.specs.Prelude.{◌≡◌};

@@ -1,4 +1,5 @@
-// What the C interface tells in one word.
+// What the C interface tells in one word. No Into<u64>: the word of a number that is no address, index or
+// offset is told by the call that refuses it, so there is no such conversion for users.
 ghost use Rattle.std.specs.Prelude.{◌≡◌, ℕ};
 ghost use Rattle.table.specs.Level.{level_of};
 

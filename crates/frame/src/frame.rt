@@ -1,4 +1,4 @@
-// A physical frame.
+// A physical frame: the source's names, a line each over what `item` has for pages too.
 ghost use Rattle.std.specs.Prelude.{◌≡◌};
 ghost use Rattle.answer.specs.Answers.{u64_of};
 ghost use Rattle.table.specs.Level.{bytes_of};

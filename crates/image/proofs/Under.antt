@@ -10,7 +10,7 @@ use lib.Bits.{bit_and, bit_xor}
 use lib.Dec.{lit<}
 use lib.ListN.{length}
 use lib.Pow.{pow_pos}
-use Rattle.mapping.specs.Pages.{PageState, reserved, outside, absent, broken, mapped}
+use Rattle.mapping.specs.Pages.{reserved, outside, absent, broken, mapped}
 use Rattle.mapping.specs.Walk.{HoldsNothing, span_pages, word_for}
 use Rattle.paging.specs.EmptyTables.{marked}
 use Rattle.paging.specs.Entry.{entry_by}
@@ -20,7 +20,6 @@ use Rattle.paging.specs.Span.{after}
 use Rattle.paging.proofs.Places.{place_inside, place-reached, table-word}
 use Rattle.paging.proofs.Remembering.{marked-true}
 use Rattle.paging.proofs.RightsBits.{rights-step}
-use Rattle.walk.specs.Segments.{segments_of}
 use Rattle.walk.specs.declared.look.Look.{Look}
 use Rattle.walk.specs.declared.look.Look.TheVariants as look
 use Rattle.walk.proofs.Looks.{Sound, sound-entry}

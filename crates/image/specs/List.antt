@@ -4,7 +4,7 @@ use Rattle.std.proofs.Math.Option as math
 use Rattle.answer.specs.Outcome.{Outcome}
 use Rattle.answer.specs.Answers.{outcome_of}
 use Rattle.answer.specs.declared.refusal.Refusal.{Refusal}
-use Rattle.laws.specs.Item.{Item, item}
+use Rattle.laws.specs.Item.{Item}
 use Rattle.page.specs.Page as page
 use Rattle.page.specs.declared.page.Page.{Page}
 use Rattle.paging.specs.List as list
@@ -15,7 +15,7 @@ use Rattle.image.specs.declared.list_searches.Listed.{Listed}
 
 -- the next page, if the search is not over
 abbrev pub next_of : Option Page → math.Option Item
-next_of (Some p) = math.some (item (page.start p) (page.bytes p))
+next_of (Some p) = math.some (page.item_of p)
 next_of None = math.none
 
 abbrev pub written_of : Listed → list.Listed

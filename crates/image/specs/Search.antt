@@ -3,7 +3,6 @@ use Rattle.std.specs.Prelude.{Result}
 use Rattle.answer.specs.Outcome.{Outcome}
 use Rattle.answer.specs.Answers.{outcome_of}
 use Rattle.answer.specs.declared.refusal.Refusal.{Refusal}
-use Rattle.laws.specs.Item.{item}
 use Rattle.frame.specs.Frame as frame
 use Rattle.page.specs.Page as page
 use Rattle.paging.specs.Search.{Report, end, stop, run}
@@ -15,8 +14,8 @@ use Rattle.image.specs.declared.run_search.SearchAnswer.TheVariants as answer
 -- what each case of an answer stands for
 abbrev pub reported_of : SearchAnswer → Report
 reported_of answer.End = end
-reported_of (answer.Stop p l r) = stop (item (page.start p) (page.bytes p)) l (reason_of r)
-reported_of (answer.Run p f c h) = run (item (page.start p) (page.bytes p)) (item (frame.start f) (frame.bytes f)) c (rights_held h)
+reported_of (answer.Stop p l r) = stop (page.item_of p) l (reason_of r)
+reported_of (answer.Run p f c h) = run (page.item_of p) (frame.item_of f) c (rights_held h)
 
 abbrev pub report_of : Result SearchAnswer Refusal → Outcome Report
 report_of = outcome_of reported_of

@@ -1,4 +1,5 @@
 // The search for mapped runs, by the numbers of pages and frames.
+// Words, segments and reserved bits come one by one, for the reason that tables.rt gives.
 ghost use Rattle.std.specs.Prelude.{◌≡◌, ◌<◌, length};
 ghost use Rattle.addr.specs.Widths.{levels_of};
 ghost use Rattle.found.specs.Found.{answer_of};

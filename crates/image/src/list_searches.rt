@@ -1,4 +1,5 @@
 // A list of searches, into lent words.
+// Words, segments and reserved bits come one by one, for the reason that tables.rt gives.
 ghost use Rattle.std.specs.Prelude.{◌≡◌, ◌+◌, ◌≤◌, ◌<◌, length};
 ghost use Rattle.answer.specs.Outcome.{gives};
 ghost use Rattle.addr.specs.Widths.{width_of, levels_of};

@@ -1,4 +1,5 @@
 // The table of level 1 that a page is under. A search begins there: most answers end in the table in which they begin, and need no way down table by table.
+// Words, segments and reserved bits come one by one, for the reason that tables.rt gives.
 ghost use Rattle.std.specs.Prelude.{◌≡◌, ◌≤◌, ◌<◌, length};
 ghost use Rattle.addr.specs.Widths.{levels_of};
 ghost use Rattle.found.specs.Progress.{progress_of};

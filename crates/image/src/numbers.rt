@@ -1,9 +1,8 @@
 // Pages and frames by their numbers, at a width.
 ghost use Rattle.std.specs.Prelude.{◌≡◌, ◌<◌, ◌^◌};
-ghost use Rattle.laws.specs.Item.{item};
 ghost use Rattle.addr.specs.Widths.{width_of};
-ghost use Rattle.frame.specs.Frame.{start as frame_start, bytes as frame_bytes};
-ghost use Rattle.page.specs.Page.{start as page_start, bytes as page_bytes};
+ghost use Rattle.frame.specs.Frame.{item_of as frame_of};
+ghost use Rattle.page.specs.Page.{item_of as page_of};
 ghost use Rattle.paging.specs.Search.{page_item, frame_item};
 
 use addr::{VirtAddr, Width};
@@ -15,7 +14,7 @@ use table::PageSize;
 // The 4 KiB page with a number.
 pub(crate) fn numbered_page(width: Width, number: u64) -> Page
     requires { number < 2 ^ 45 }
-    ensures { item (page_start result) (page_bytes result) ≡ page_item (width_of width) number }
+    ensures { page_of result ≡ page_item (width_of width) number }
 {
     Page {
         start_address: VirtAddr(width.truncate(number * 0x1000)),
@@ -26,7 +25,7 @@ pub(crate) fn numbered_page(width: Width, number: u64) -> Page
 // The 4 KiB frame with a number.
 pub(crate) fn numbered_frame(number: u64) -> PhysFrame
     requires { number < 2 ^ 40 }
-    ensures { item (frame_start result) (frame_bytes result) ≡ frame_item number }
+    ensures { frame_of result ≡ frame_item number }
 {
     PhysFrame {
         start_address: PhysAddr(number * 0x1000),

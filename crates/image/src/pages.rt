@@ -16,6 +16,7 @@ fn alike(table: &[u64], from: usize, mask: u64, step: u64, reserved: u64) -> usi
     ensures { Alike table.now from mask step reserved result }
 {
     let mut due = table[from] & mask;
+    // The answer is an index, so the loop counts.
     for i in from + 1..TABLE_WORDS {
         due += step;
         let word = table[i];

@@ -3,12 +3,18 @@ ghost use Rattle.std.specs.Prelude.{◌≡◌, ◌^◌, ◌<◌, ◌≤◌};
 ghost use Rattle.mapping.specs.Walk.{span_pages};
 ghost use Rattle.paging.specs.Span.{after};
 
-// The pages that an entry of level below + 1 spans.
+use table::SPANS;
+
+// The pages that an entry of level below + 1 spans. The array ends with what a table of level 4 spans; one of level 5 has 512 such entries.
 fn span_pages(below: u64) -> u64
     requires { below ≤ 5 }
     ensures { result ≡ span_pages below }
 {
-    1 << (9 * below)
+    if below < 5 {
+        SPANS[below as usize] >> 12
+    } else {
+        512 * (SPANS[4] >> 12)
+    }
 }
 
 // The page after the last of the span of such an entry that a page is in.

@@ -1,5 +1,6 @@
 // The search over tables, each lower one by the same rule, one level down. The words, the segments and the bits that are reserved are parameters of their own and no struct, as
-// `walk::Tables`: the compiler then sees that there is one segment and that no bit is reserved, and a list takes up to a third less time.
+// `walk::Tables`: the compiler then sees that there is one segment and that no bit is reserved, and a list takes up to a third less time. So are the bytes of empty tables and
+// the progress: of a struct that holds a `&mut` each contract would have to say that it is the same reference, which is no plainer.
 ghost use Rattle.std.specs.Prelude.{◌≡◌, ◌+◌, ◌-◌, ◌^◌, ◌≤◌, ◌<◌, length};
 ghost use Rattle.found.specs.Progress.{progress_of};
 ghost use Rattle.paging.specs.Memory.{table_from};

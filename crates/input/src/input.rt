@@ -4,6 +4,9 @@ ghost use Rattle.input.specs.Input.{header_bytes, header_found, header_in, heade
 
 use answer::Refusal;
 
+// The first byte of a file.
+const VERSION: u8 = 1;
+
 // The bytes of a word; base and root have as many.
 const WORD_BYTES: usize = 8;
 
@@ -38,7 +41,10 @@ fn split_header(bytes: &[u8]) -> Option<Header>
     let (base, rest) = rest.split_first_chunk::<WORD_BYTES>()?;
     let (root, _) = rest.split_first_chunk::<WORD_BYTES>()?;
     let words = u32::from_be_bytes(*words) as usize;
-    if *version != 1 || MOST_WORDS < words || bytes.len() != HEADER_BYTES + WORD_BYTES * words {
+    if *version != VERSION
+        || MOST_WORDS < words
+        || bytes.len() != HEADER_BYTES + WORD_BYTES * words
+    {
         return None;
     }
     Some(Header {
@@ -59,6 +65,7 @@ pub fn read_words(bytes: &[u8], out: &mut [u64]) -> u64
     };
     let (words, _) = rest.as_chunks::<WORD_BYTES>();
     let count = words.len().min(out.len());
+    // By index: the words of out are as many as are counted.
     for (i, word) in words[..count].iter().enumerate() {
         out[i] = u64::from_be_bytes(*word);
     }

@@ -1,4 +1,6 @@
-// What pages and frames share, on plain numbers: an item is where it starts and its size.
+// What pages and frames share, on plain numbers: an item is where it starts and its size. A range comes as its
+// first item and its end, as the source's constructors take them. `below` and `through`, `plus` and `minus`
+// differ in what they call and in no type: one function of both would take that, and read no plainer.
 #![tactic(auto)]
 
 mod item;

@@ -1,4 +1,4 @@
-// Physical addresses.
+// Physical addresses: the source's names, a line each over what `address` has for both kinds.
 ghost use Rattle.std.specs.Prelude.{◌≡◌, ◌%◌};
 ghost use Rattle.answer.specs.Answers.{u64_of, bool_of};
 ghost use Rattle.laws.specs.Address.{phys, phys_size, address, is_null, is_aligned, plus, minus, distance, align_down_phys, align_up_phys};

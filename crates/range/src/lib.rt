@@ -1,4 +1,5 @@
-// Ranges of pages and of frames: one type for those without their end and one for those with it.
+// Ranges of pages and of frames: one type for those without their end and one for those with it, as std has
+// them. One type with a const flag would branch on it in each method and clause, and read no plainer.
 #![tactic(auto)]
 
 mod range;

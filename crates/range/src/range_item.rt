@@ -39,6 +39,7 @@ pub trait RangeItem: Copy {
     fn placed(self, start: u64) -> Self
         ensures { result ≡ kind.placed self start };
 
+    // Each of the eight is another draw on numbers; a table of them would be no plainer.
     fn draw_nth_below(start: Item, end: Item, n: u64) -> Result<Draw, Refusal>
         ensures { outcome_of draw_of result ≡ guarded (nth_below start.start (bytes_of start.size) end.start (bytes_of end.size) n) };
 

@@ -49,6 +49,7 @@ fn answer_line(answer: &[u64; ANSWER_WORDS]) -> Option<Line> {
         END => None,
         RUN => Some(run_line(page, place, count, Rights::from_bits(rights))),
         RESERVED => Some(stop_line(page, place, StopReason::Reserved)),
+        // OUTSIDE: a list stores no other kind.
         _ => Some(stop_line(page, place, StopReason::Outside)),
     }
 }

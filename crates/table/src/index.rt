@@ -11,7 +11,7 @@ use answer::Refusal;
 pub const ENTRY_COUNT: u16 = 512;
 
 impl PageTableIndex {
-    // The index count entries on; none above 511.
+    // The index count entries on; none above 511. On and back are two operations, and the source's names.
     pub fn forward_checked(
         start: PageTableIndex,
         count: u64,

@@ -4,7 +4,7 @@ ghost use Rattle.laws.specs.Index.{span, index};
 ghost use Rattle.table.specs.Answers.{level_answer_of};
 ghost use Rattle.table.specs.Level.{level_of, lower, higher};
 
-use crate::up_to::PageTableIndex;
+use crate::up_to::{PageTableIndex, UpTo};
 
 // What one entry spans at levels 1 to 4, and last the whole level-4 table.
 pub const SPANS: [u64; 5] = [
@@ -73,10 +73,13 @@ impl PageTableLevel {
 
     // The index that an address has into a table of this level: nine bits from the first one above
     // what an entry spans.
+    #[tactic(auto, using(crate::proofs::Indices::indices))]
     pub fn index_of(self, addr: u64) -> PageTableIndex
         ensures { result.0 ≡ index (level_of self) addr }
     {
-        PageTableIndex::new_truncate(addr >> (12 + 9 * (self.number() - 1)))
+        let level = self.number();
+        let within = addr & (span_of(level) - 1);
+        UpTo((within >> (12 + 9 * (level - 1))) as u16)
     }
 
     // What an entry of a table of this level spans.

@@ -11,7 +11,7 @@ pub enum PageSize {
 }
 
 impl PageSize {
-    // The size as a power of two.
+    // The size as a power of two; like the size in bytes a constant for each case, and no shift.
     pub fn power(self) -> u32
         ensures { result ≡ power_of self }
     {
@@ -46,6 +46,7 @@ impl PageSize {
     {
         n >> self.power()
     }
+
     // The bytes of so many pages of the size, if they are below 2^64: by a shift, where `checked_mul` would
     // divide.
     #[tactic(auto, using(crate::proofs::Sizes::past_count, crate::proofs::Sizes::within_count))]

@@ -1,4 +1,4 @@
-// What C and Rust link as libwuohtan.a: include/wuohtan.h declares each function. Each is one call of
+// What C and Rust link as libwuohtan.a, a function for each operation since C calls it by its name: include/wuohtan.h declares each function. Each is one call of
 // the crate wuohtan's function of its name, and states that function's contract.
 #![tactic(auto)]
 
