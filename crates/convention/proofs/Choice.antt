@@ -1,18 +1,15 @@
 -- What a choice by its number says, both ways.
 use mathlib.Core.Path.{◌≡◌, refl}
 use mathlib.Core.Bool.{Bool, true, false, cond}
-use mathlib.Core.List.{List}
 use Prim.Native.Nat.{ℕ}
 use native.Mathlib.Omega.{arith}
 use native.Mathlib.Decide.{dec_lt, ℕ_discrete}
 use borrow.Author.Tests.{lt-ltb, le-ltb, ne_eqb}
-use Rattle.answer.specs.Outcome.{Outcome, gives, none, refuses, unless, only_if}
+use Rattle.answer.specs.Outcome.{gives, none, only_if}
 use Rattle.laws.proofs.Cases.{by_cases}
 use Rattle.table.specs.Level.{level_of, bytes_of}
 use Rattle.table.specs.declared.level.PageTableLevel.{PageTableLevel}
-use Rattle.status.specs.Status.{no_such_choice}
-use Rattle.status.specs.Convention.{left, leaves}
-use Rattle.convention.specs.Choice.{is_level, is_size, are_sizes, of_size, size_with}
+use Rattle.convention.specs.Choice.{is_level, is_size, size_with}
 
 -- an answer says whether its test holds
 pub some_holds : {A : Type 0} (t : Bool) (x y : A) → gives x ≡ only_if t y → (t ≡ true) × (x ≡ y)
@@ -33,9 +30,9 @@ unfolding is_size
 not-size z a b c = simp (ne_eqb z 0x1000 a, ne_eqb z 0x20_0000 b, ne_eqb z 0x4000_0000 c)
 
 -- the size with so many bytes has them
-bytes-with : (z : ℕ) → is_size z ≡ true → bytes_of (size_with z) ≡ z
+pub bytes_with : (z : ℕ) → is_size z ≡ true → bytes_of (size_with z) ≡ z
 unfolding size_with
-bytes-with z h =
+bytes_with z h =
     by_cases (ℕ_discrete z 0x1000) (λ e. rw e) (λ a.
     by_cases (ℕ_discrete z 0x20_0000) (λ e. rw e) (λ b.
     by_cases (ℕ_discrete z 0x4000_0000) (λ e. rw e) (λ c.
@@ -54,41 +51,8 @@ pub record OfSize {A : Type 0} (z : ℕ) (p x : A) : Type 0 where
   pub read : p ≡ x
   pub bytes : bytes_of (size_with z) ≡ z
 
-module _ {A : Type 0} (z : ℕ) (x : A) where
-  pub size-chosen : (p : A) → gives p ≡ only_if (is_size z) x → OfSize z p x
-  size-chosen p e = let h = some_holds (is_size z) p x e in record { is-size = h.0; read = h.1; bytes = bytes-with z h.0 }
+pub size-chosen : {A : Type 0} (z : ℕ) (x p : A) → gives p ≡ only_if (is_size z) x → OfSize z p x
+size-chosen z x p e = let h = some_holds (is_size z) p x e in record { is-size = h.0; read = h.1; bytes = bytes_with z h.0 }
 
-  pub size-missing : none ≡ only_if (is_size z) x → (o : Outcome (List ℕ)) (out : List ℕ) → left no_such_choice out ≡ leaves (of_size z o) out
-  unfolding leaves
-  size-missing e o out = rw (none-fails (is_size z) x e)
-
--- the same with two sizes
-both_hold : {A : Type 0} (s t : Bool) (x y : A) → gives x ≡ only_if (cond s t false) y → (s ≡ true) × (t ≡ true) × (x ≡ y)
-both_hold true t x y e = let p = some_holds t x y e in (refl, p.0, p.1)
-both_hold false t x y e = let z : ◌≡◌ {A = ℕ} 0 1 = cc in absurd (omega arith)
-
-one-fails : {A B : Type 0} (k : ℕ) (s t : Bool) (x : A) (o : Outcome B) → none ≡ only_if (cond s t false) x → unless k s (unless k t o) ≡ refuses k
-one-fails k true t x o e = rw (none-fails t x e)
-one-fails k false t x o e = refl
-
-pub record OfSizes {A : Type 0} (y z : ℕ) (p x : A) : Type 0 where
-  pub are-sizes : (is_size y ≡ true) × (is_size z ≡ true)
-  pub read : p ≡ x
-  pub bytes : (bytes_of (size_with y) ≡ y) × (bytes_of (size_with z) ≡ z)
-
-module _ {A : Type 0} (y z : ℕ) (x : A) where
-  pub sizes-chosen : (p : A) → gives p ≡ only_if (are_sizes y z) x → OfSizes y z p x
-  sizes-chosen p e =
-      let h = both_hold (is_size y) (is_size z) p x e in
-      record { are-sizes = (h.0, h.1); read = h.2; bytes = (bytes-with y h.0, bytes-with z h.1) }
-
-  pub sizes-missing : none ≡ only_if (are_sizes y z) x → (o : Outcome (List ℕ)) (out : List ℕ) → left no_such_choice out ≡ leaves (of_size y (of_size z o)) out
-  unfolding leaves
-  sizes-missing e o out = rw (one-fails no_such_choice (is_size y) (is_size z) x o e)
-
--- what the choices say, as the proofs of the calls cite it
+-- what the choice of a level says, as the proofs of the calls cite it
 pub ruleset levels = (level-chosen, level-missing)
-
-pub ruleset sizes = (size-chosen, size-missing)
-
-pub ruleset pairs_of_sizes = (sizes-chosen, sizes-missing)

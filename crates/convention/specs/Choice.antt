@@ -1,6 +1,6 @@
 -- "Level and page size are closed choices": here they are numbers, and one that is no choice has a status of its own, tried first.
-use Rattle.std.specs.Prelude.{ℕ, min, Bool, true, false, cond, List, ltb, eqb, Option, Some, None}
-use Rattle.answer.specs.Outcome.{Outcome, gives, none, unless}
+use Rattle.std.specs.Prelude.{ℕ, min, Bool, true, false, cond, List, ltb, eqb}
+use Rattle.answer.specs.Outcome.{Outcome, unless}
 use Rattle.table.specs.declared.size.PageSize.{PageSize}
 use Rattle.table.specs.declared.size.PageSize.TheVariants.{Size4KiB, Size2MiB, Size1GiB}
 use Rattle.status.specs.Status.{no_such_choice}
@@ -12,14 +12,6 @@ is_level n = cond (ltb 0 n) (ltb n 5) false
 -- 4 KiB, 2 MiB or 1 GiB
 unfoldable pub is_size : ℕ → Bool
 is_size z = cond (eqb z 0x1000) true (cond (eqb z 0x20_0000) true (eqb z 0x4000_0000))
-
-abbrev pub are_sizes : ℕ → ℕ → Bool
-are_sizes y z = cond (is_size y) (is_size z) false
-
--- a choice, or none
-abbrev pub chosen : {A : Type 0} → Option A → Outcome A
-chosen (Some x) = gives x
-chosen None = none
 
 -- refused unless the number is a choice; then what follows
 abbrev pub at_level : ℕ → Outcome (List ℕ) → Outcome (List ℕ)

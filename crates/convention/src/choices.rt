@@ -1,8 +1,8 @@
 // The closed choices, by their numbers, and the pages, frames and ranges that are read with them.
-ghost use Rattle.std.specs.Prelude.{◌≡◌};
+ghost use Rattle.std.specs.Prelude.{◌≡◌, SomeIff, true};
 ghost use Rattle.answer.specs.Outcome.{only_if};
 ghost use Rattle.table.specs.Answers.{level_answer_of};
-ghost use Rattle.convention.specs.Choice.{is_level, is_size, are_sizes, size_with, saturate, chosen};
+ghost use Rattle.convention.specs.Choice.{is_level, is_size, size_with, saturate};
 ghost use Rattle.convention.specs.Ranges.{range_at, range_inclusive_at};
 
 use crate::items::ItemAt;
@@ -26,7 +26,7 @@ pub fn choose_level(level: u64) -> Option<PageTableLevel>
 // The size with so many bytes.
 #[tactic(auto, using(std::proofs::lemmas::Bool::Decides::nat_tests), unfolding(crate::specs::Choice::is_size, crate::specs::Choice::size_with))]
 pub fn choose_size(size: u64) -> Option<PageSize>
-    ensures { chosen result ≡ only_if (is_size size) (size_with size) }
+    ensures { SomeIff result (is_size size ≡ true) (size_with size) }
 {
     match size {
         0x1000 => Some(PageSize::Size4KiB),
@@ -38,7 +38,7 @@ pub fn choose_size(size: u64) -> Option<PageSize>
 
 // The page or frame that starts at a number, of a size in bytes.
 pub fn choose<T: ItemAt>(start: u64, size: u64) -> Option<T>
-    ensures { chosen result ≡ only_if (is_size size) (T.at (size_with size) start) }
+    ensures { SomeIff result (is_size size ≡ true) (T.at (size_with size) start) }
 {
     Some(T::at(choose_size(size)?, start))
 }
@@ -50,7 +50,7 @@ pub fn choose_range<T: ItemAt>(
     end: u64,
     end_size: u64,
 ) -> Option<Range<T>>
-    ensures { chosen result ≡ only_if (are_sizes start_size end_size) (range_at T.at start start_size end end_size) }
+    ensures { SomeIff result ((is_size start_size ≡ true) × (is_size end_size ≡ true)) (range_at T.at start start_size end end_size) }
 {
     Some(Range {
         start: choose(start, start_size)?,
@@ -64,7 +64,7 @@ pub fn choose_range_inclusive<T: ItemAt>(
     end: u64,
     end_size: u64,
 ) -> Option<RangeInclusive<T>>
-    ensures { chosen result ≡ only_if (are_sizes start_size end_size) (range_inclusive_at T.at start start_size end end_size) }
+    ensures { SomeIff result ((is_size start_size ≡ true) × (is_size end_size ≡ true)) (range_inclusive_at T.at start start_size end end_size) }
 {
     Some(RangeInclusive {
         start: choose(start, start_size)?,

@@ -1,5 +1,5 @@
 // Frames, as numbers: a start and a size in bytes.
-#![tactic(auto, using(convention::proofs::Choice::sizes, convention::proofs::Choice::pairs_of_sizes), unfolding(status::specs::Convention::leaves))]
+#![tactic(auto, using(convention::proofs::Choice::bytes_with), unfolding(status::specs::Convention::leaves))]
 
 ghost use Rattle.std.specs.Prelude.{◌≡◌};
 ghost use Rattle.laws.specs.Address.{phys};
