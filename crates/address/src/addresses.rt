@@ -37,7 +37,8 @@ pub trait Addresses: Copy {
         is_aligned(self.argument(addr)?, align)
     }
 
-    // The address count bytes on, by the numbers; 5 beyond 64 bits.
+    // The address count bytes on, by the numbers; 5 beyond 64 bits. `minus` differs in the operation alone: one
+    // function of both would take that with its contract, and read no plainer.
     final fn plus(self, addr: u64, count: u64) -> Result<u64, Refusal>
         ensures { u64_of result ≡ plus (space self) addr count }
     {

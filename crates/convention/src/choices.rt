@@ -23,7 +23,7 @@ pub fn choose_level(level: u64) -> Option<PageTableLevel>
     }
 }
 
-// The size with so many bytes.
+// The size with so many bytes; an Option for the same reason.
 #[tactic(auto, using(std::proofs::lemmas::Bool::Decides::nat_tests), unfolding(crate::specs::Choice::is_size, crate::specs::Choice::size_with))]
 pub fn choose_size(size: u64) -> Option<PageSize>
     ensures { SomeIff result (is_size size ≡ true) (size_with size) }

@@ -6,7 +6,8 @@ ghost use Rattle.table.specs.Level.{bytes_of};
 use table::PageSize;
 
 // A range of items of one size, by the numbers of its start and its end. What is named for `below` takes the
-// end as exclusive, what is named for `through` as inclusive.
+// end as exclusive, what is named for `through` as inclusive. The two differ in how they count and in what a draw
+// leaves, and in no type or constant: one function of both would branch wherever they do, and be no plainer.
 #[derive(Clone, Copy, Debug, PartialEq, Eq)]
 pub struct NumberRange {
     pub start: u64,

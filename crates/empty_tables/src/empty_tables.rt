@@ -1,4 +1,5 @@
 // A byte for each 512 words, in it a bit for each level; level 9 would have that of level 1 again, and so on. What has no byte is not remembered.
+// The bytes are lent, and plain ones: C lends them to `list`, and there is no heap.
 ghost use Rattle.std.specs.Prelude.{◌≡◌, length, replicate};
 ghost use Rattle.paging.specs.EmptyTables.{has_byte, marked, marking, marking_whole};
 

@@ -53,7 +53,7 @@ impl PhysFrame {
         })
     }
 
-    // The same as `try_from_pfn`.
+    // The same as `try_from_pfn`: the source has both, and C calls both; where one panics there, both refuse here.
     pub fn from_pfn(pfn: u64, size: PageSize) -> Result<PhysFrame, Refusal>
         ensures { frame_of result ≡ from_pfn pfn (bytes_of size) }
     {

@@ -80,6 +80,8 @@ impl RangeItem for PhysFrame {
         }
     }
 
+    // Each draw is the one on numbers, behind one test; a function that took the draw would have to take its contract
+    // too, and be no plainer.
     fn draw_nth_below(start: Item, end: Item, n: u64) -> Result<Draw, Refusal> {
         check_both(Physical, start, end)?;
         Ok(numbers(start, end).front_below(n))

@@ -86,7 +86,7 @@ fn list_from(
 
 // The answers of the searches from a 4 KiB page on, each from the next page that the one before it left, as many as have room in out, five words each. Beyond them
 // out is left as it was, and so is all of it on a refusal. In empty_tables the searches remember which tables hold nothing, a byte for each table and a bit for each level:
-// what stands there before does not matter, and where there is no byte nothing is remembered.
+// what stands there before does not matter, and where there is no byte nothing is remembered. Both are lent as words and bytes: C lends them so, and a kernel has no heap here.
 pub fn list(
     image: &[u64],
     base: PhysAddr,

@@ -139,7 +139,7 @@ pub fn end_line() -> Line
     Line::new().with(b"end\n")
 }
 
-// `more PAGE`
+// `more PAGE`. It and `refused_line` differ in how their number is printed, and one function would be told the text and the way.
 #[tactic(auto, unfolding(crate::specs::Text::more_line))]
 pub fn more_line(page: u64) -> Line
     ensures { result ≡ more_line page }

@@ -86,6 +86,7 @@ impl RangeItem for Page {
         }
     }
 
+    // Each draw is page_draw's of its name, at this width: a line each, and no line shorter.
     fn draw_nth_below(start: Item, end: Item, n: u64) -> Result<Draw, Refusal> {
         page_draw::nth_below(Width::Bits48, start, end, n)
     }

@@ -46,7 +46,7 @@ fn walk_page(tables: &Tables, place: usize, page: u64, rights: u64) -> Walked
 }
 
 // Finds what the table of the level at a place says of a page. rights has the bits that every word above it has. The answer is written to found: a value handed back is
-// copied at each level, and a translation takes twice as long.
+// copied at each level, and a translation then took 2.0 to 2.35 of the Rust's time, where at most 2.0 is wanted.
 #[tactic(auto, using(crate::proofs::Entries::told_absent, crate::proofs::Entries::told_reserved, crate::proofs::Entries::told_leaf, crate::proofs::Entries::told_outside, crate::proofs::Entries::told_below, crate::proofs::Entries::lower_inside))]
 pub(crate) fn walk_table(
     tables: &Tables,

@@ -24,6 +24,7 @@ impl Segment {
 }
 
 // Where the table at a physical address begins in so many lent words, if it is wholly inside. Where the segments have more words than are lent, those that are count.
+// No `Tables`, which has both: whoever has the number of words alone could not call it then, and a contract asks no more of callers than it did.
 #[tactic(auto, using(crate::proofs::Segments::found_next, crate::proofs::Segments::found_behind, crate::proofs::Segments::none_behind))]
 pub fn table_place(lent: u64, segments: &[Segment], table: u64) -> Option<usize>
     ensures { place_of result ≡ place_from 0 (reaching lent (segments_of segments.now)) table }

@@ -1,4 +1,4 @@
-// The test of an image handed in.
+// The test of an image handed in. The number of lent words and the segments come one by one, for the reason that `table_place` gives.
 ghost use Rattle.std.specs.Prelude.{◌≡◌};
 ghost use Rattle.answer.specs.Answers.{refusal_of, u64_of};
 ghost use Rattle.laws.specs.Address.{phys};
