@@ -1,10 +1,10 @@
 -- What a choice by its number says, both ways.
 use mathlib.Core.Path.{◌≡◌, refl}
-use mathlib.Core.Bool.{Bool, true, false, cond}
+use mathlib.Core.Bool.{Bool, true, false}
 use Prim.Native.Nat.{ℕ}
 use native.Mathlib.Omega.{arith}
-use native.Mathlib.Decide.{dec_lt, ℕ_discrete}
-use borrow.Author.Tests.{lt-ltb, le-ltb, ne_eqb}
+use native.Mathlib.Decide.{ℕ_discrete}
+use borrow.Author.Tests.{ne_eqb}
 use Rattle.answer.specs.Outcome.{gives, none, only_if}
 use Rattle.laws.proofs.Cases.{by_cases}
 use Rattle.table.specs.Level.{level_of, bytes_of}
@@ -19,11 +19,6 @@ some_holds false x y e = let z : ◌≡◌ {A = ℕ} 0 1 = cc in absurd (omega a
 pub none-fails : {A : Type 0} (t : Bool) (y : A) → none ≡ only_if t y → t ≡ false
 none-fails true y e = let z : ◌≡◌ {A = ℕ} 0 1 = cc in absurd (omega arith)
 none-fails false y e = refl
-
--- no level, no size
-pub not-level : (n : ℕ) → (n ≡ 1 → ⊥) → (n ≡ 2 → ⊥) → (n ≡ 3 → ⊥) → (n ≡ 4 → ⊥) → is_level n ≡ false
-unfolding is_level
-not-level n a b c d = by_cases (dec_lt 0 n) (λ h. simp (lt-ltb 0 n h, le-ltb n 5 (omega arith))) (λ h. simp (le-ltb 0 n (omega arith)))
 
 pub not-size : (z : ℕ) → (z ≡ 0x1000 → ⊥) → (z ≡ 0x20_0000 → ⊥) → (z ≡ 0x4000_0000 → ⊥) → is_size z ≡ false
 unfolding is_size

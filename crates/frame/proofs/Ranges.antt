@@ -13,7 +13,7 @@ use Rattle.laws.specs.Draw as draw
 use Rattle.laws.specs.Address.{phys}
 use Rattle.laws.specs.Item.{first_refusal, items_refusal}
 use Rattle.laws.specs.Kind.{guarded, settled}
-use Rattle.laws.proofs.Kind.{guarded_gives, guarded_refuses}
+use Rattle.laws.proofs.Kind.{guarded_gives}
 use Rattle.laws.proofs.Align.{under_top}
 use Rattle.laws.proofs.Draw.{front-below-start, back-below-under, front-through-under, front-through-start, front-through-end, back-through-start, back-through-end}
 use Rattle.laws.proofs.Item.{phys-argument, item-passed, items-passed, first-refused, refused-unless}
@@ -173,22 +173,12 @@ pub ruleset draws =
 pub accepted_frames : (x y : PhysFrame) → refusal x y ≡ 0 → Accepted (start x) x.size (start y) y.size
 accepted_frames x y e = accepted (start x) x.size (start y) y.size e
 
--- each draw, on a refused and on an accepted range
+-- each draw, on an accepted range
 module _ (r : Range PhysFrame) (n : ℕ) where
-  pub nth-refused : (refusal r.start r.end ≡ 0 → ⊥) → record { answer = refuses (refusal r.start r.end); range = r } ≡ nth_of r n
-  nth-refused h =
-      guarded_refuses frames made r.start r.end (nth_below (start r.start) (bytes r.start) (start r.end) (bytes r.end) n) (refusal r.start r.end)
-      (sym (front-refused (start r.start) r.start.size (start r.end) r.end.size n h))
-
   pub nth-settled : refusal r.start r.end ≡ 0 → settled frames made r.start r.end (front (start r.start) r.start.size (start r.end) r.end.size n) ≡ nth_of r n
   nth-settled e =
       guarded_gives frames made r.start r.end (nth_below (start r.start) (bytes r.start) (start r.end) (bytes r.end) n) (front (start r.start) r.start.size (start r.end) r.end.size n)
       (sym (front-given (start r.start) r.start.size (start r.end) r.end.size n e))
-
-  pub nth-back-refused : (refusal r.start r.end ≡ 0 → ⊥) → record { answer = refuses (refusal r.start r.end); range = r } ≡ nth_back_of r n
-  nth-back-refused h =
-      guarded_refuses frames made r.start r.end (nth_back_below (start r.start) (bytes r.start) (start r.end) (bytes r.end) n) (refusal r.start r.end)
-      (sym (back_refused (start r.start) r.start.size (start r.end) r.end.size n h))
 
   pub nth-back-settled : refusal r.start r.end ≡ 0 → settled frames made r.start r.end (back (start r.start) r.start.size (start r.end) r.end.size n) ≡ nth_back_of r n
   nth-back-settled e =
@@ -196,21 +186,11 @@ module _ (r : Range PhysFrame) (n : ℕ) where
       (sym (back_given (start r.start) r.start.size (start r.end) r.end.size n e))
 
 module _ (r : RangeInclusive PhysFrame) (n : ℕ) where
-  pub nth-inclusive-refused : (refusal r.start r.end ≡ 0 → ⊥) → record { answer = refuses (refusal r.start r.end); range = r } ≡ nth_inclusive_of r n
-  nth-inclusive-refused h =
-      guarded_refuses frames made_inclusive r.start r.end (nth_through (start r.start) (bytes r.start) (start r.end) (bytes r.end) n) (refusal r.start r.end)
-      (sym (front-inclusive-refused (start r.start) r.start.size (start r.end) r.end.size n h))
-
   pub nth-inclusive-settled : refusal r.start r.end ≡ 0
       → settled frames made_inclusive r.start r.end (front_inclusive (start r.start) r.start.size (start r.end) r.end.size n) ≡ nth_inclusive_of r n
   nth-inclusive-settled e =
       guarded_gives frames made_inclusive r.start r.end (nth_through (start r.start) (bytes r.start) (start r.end) (bytes r.end) n)
       (front_inclusive (start r.start) r.start.size (start r.end) r.end.size n) (sym (front-inclusive-given (start r.start) r.start.size (start r.end) r.end.size n e))
-
-  pub nth-back-inclusive-refused : (refusal r.start r.end ≡ 0 → ⊥) → record { answer = refuses (refusal r.start r.end); range = r } ≡ nth_back_inclusive_of r n
-  nth-back-inclusive-refused h =
-      guarded_refuses frames made_inclusive r.start r.end (nth_back_through (start r.start) (bytes r.start) (start r.end) (bytes r.end) n) (refusal r.start r.end)
-      (sym (back-inclusive-refused (start r.start) r.start.size (start r.end) r.end.size n h))
 
   pub nth-back-inclusive-settled : refusal r.start r.end ≡ 0
       → settled frames made_inclusive r.start r.end (back_inclusive (start r.start) r.start.size (start r.end) r.end.size n) ≡ nth_back_inclusive_of r n

@@ -1,6 +1,6 @@
 -- The bytes of an inclusive range that is not refused: they pass 64 bits exactly for all of the 64-bit numbers.
-use Rattle.std.specs.Prelude.{◌≡◌, ℕ, ◌+◌, ◌-◌, ◌*◌, ◌/◌, ◌%◌, ◌^◌, ◌<◌, ◌≤◌, ◌≢◌, Bool, true, false, cond, eqb, ltb, refl}
-use Rattle.std.proofs.Common.{arith, sym}
+use Rattle.std.specs.Prelude.{◌≡◌, ℕ, ◌-◌, ◌*◌, ◌%◌, ◌^◌, ◌<◌, ◌≢◌, true, false, cond, eqb, ltb}
+use Rattle.std.proofs.Common.{arith}
 use Rattle.std.proofs.lemmas.Bool.Decides.{nat_tests}
 use Rattle.laws.specs.Address.{Addresses}
 use Rattle.laws.specs.Item.{items_refusal}

@@ -1,7 +1,6 @@
 -- Laws of alignment: powers of two by their count of ones, the multiples on both sides of a number, and the mask that finds them.
 use mathlib.Core.Path.{◌≡◌, refl, sym, ap, ◌∙◌}
 use mathlib.Core.Logic.{◌↔◌}
-use mathlib.Core.Bool.{Bool, true, false}
 use Prim.Native.Nat.{ℕ, zero, suc, ◌+◌, ◌-◌, ◌*◌, ◌/◌, ◌%◌, ◌^◌, ◌≤◌, ◌<◌}
 use native.Mathlib.Omega.{arith}
 use native.Mathlib.Decide.{dec_lt}
@@ -10,10 +9,7 @@ use lib.Arith.{bin_ind}
 use lib.Bits.{bit_and, and_mask}
 use lib.Count.{ones, ones_step, ones_cat}
 use lib.Pow.{pow_pos, pow_mono, pow-add}
-use borrow.Author.Tests.{eqb-true, lt-ltb}
-use Rattle.answer.specs.Outcome.{gives, unless}
-use Rattle.answer.specs.Refusal.{not_power_of_two}
-use Rattle.laws.specs.Align.{power_of_two, down, up, align_up}
+use Rattle.laws.specs.Align.{down, up}
 use Rattle.laws.proofs.Cases.{by_cases}
 
 abbrev pub Power : ℕ → Type 0
@@ -107,21 +103,6 @@ up_top n a e f h = up-within 64 n a e (omega arith) (omega arith)
 
 pub up_fits : (n a : ℕ) → ones n ≡ 1 → n < 2 ^ 64 → a < 2 ^ 63 → up n a < 2 ^ 64
 up_fits n a e f h = omega (arith, up-within 63 n a e (omega arith) (omega arith))
-
--- of the latter nothing but the alignment is refused
-pub up-given : (n a : ℕ) → n < 2 ^ 64 → a < 2 ^ 63 → align_up a n ≡ unless not_power_of_two (power_of_two n) (gives (up n a))
-up-given n a f h = go (power_of_two n) refl
-  where
-    go : (t : Bool) → power_of_two n ≡ t → align_up a n ≡ unless not_power_of_two (power_of_two n) (gives (up n a))
-    go true e = simp (e, lt-ltb (up n a) (2 ^ 64) (up_fits n a (eqb-true (ones n) 1 e) f h))
-    go false e = simp e
-
--- whether `n` times `z` is within a bound, by the quotient of the bound
-pub times-past : (n z m : ℕ) → 0 < z → m / z < n → m < n * z
-times-past n z m p h = (div-lt_iff_lt-mul p).0 h
-
-pub times-within : (n z m : ℕ) → 0 < z → n ≤ m / z → n * z ≤ m
-times-within n z m p h = (le-div_iff_mul-le p).0 h
 
 -- it is the quotient by a smaller one, times that
 pub pow-blocks : (k m : ℕ) → k ≤ m → 2 ^ m / 2 ^ k * 2 ^ k ≡ 2 ^ m

@@ -32,9 +32,6 @@ module _ (l : List ℕ) (a b s n : ℕ) where
   pub front-below-start : (front_below l a b s n).start ≤ max a b
   front-below-start = omega (arith, fits_below a b s, mul-le-mul_right {m = min (n + 1) (len_below a b s)} {n = len_below a b s} s (min-le_right (n + 1) (len_below a b s)))
 
-  pub back-below-end : (back_below l a b s n).end ≤ b
-  back-below-end = omega arith
-
   module _ (top : ℕ) (ha : a ≤ top) (hb : b ≤ top) (hs : s ≤ top) where
     pub front-through-start : (front_through l top a b s n).start ≤ top
     front-through-start =

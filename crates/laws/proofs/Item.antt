@@ -1,12 +1,11 @@
 -- The test of an item handed in, as the code has it: one number, 0 where the item is none to refuse.
-use mathlib.Core.Path.{◌≡◌, refl, sym, ◌∙◌}
+use mathlib.Core.Path.{◌≡◌, refl}
 use mathlib.Core.Bool.{Bool, true, false}
 use Prim.Native.Nat.{ℕ, zero, suc, ◌+◌, ◌-◌, ◌*◌, ◌%◌, ◌^◌, ◌≤◌, ◌<◌}
 use native.Mathlib.Omega.{arith}
 use lib.Dec.{eqb}
-use borrow.Author.Tests.{eqb-true, eq-eqb, ne_eqb, lt-ltb, le-ltb, le-leb, lt-leb}
+use borrow.Author.Tests.{eqb-true, lt-ltb, le-leb}
 use Rattle.answer.specs.Outcome.{Outcome, gives, refuses, unless_refused}
-use Rattle.answer.specs.Refusal.{overflow, sizes_differ}
 use Rattle.laws.specs.Address.{Addresses, virt, phys}
 use Rattle.laws.specs.Item.{item, given_item, item_refusal, plus_item, minus_item, given_items, first_refusal, items_refusal}
 
@@ -34,56 +33,14 @@ pub first-refused : (k m : ℕ) → (k ≡ 0 → ⊥) → first_refusal k m ≡ 
 first-refused zero m h = absurd (h refl)
 first-refused (suc k) m h = refl
 
-pub refuses-first : (r k m : ℕ) → r ≡ k → (r ≡ 0 → ⊥) → (first_refusal k m ≡ r) × (0 < r)
-refuses-first r k m e h = (first-refused k m (λ z. h (e ∙ z)) ∙ sym e, omega arith)
-
--- the number for two items, by those for each: the first that is not 0
-module _ (s : Addresses) (a y b z : ℕ) where
-  pub items-first : (item_refusal s a y ≡ 0 → ⊥) → item_refusal s a y ≡ items_refusal s a y b z
-  unfolding items_refusal
-  items-first n = go (item_refusal s a y) refl
-    where
-      go : (m : ℕ) → item_refusal s a y ≡ m → item_refusal s a y ≡ items_refusal s a y b z
-      go zero e = absurd (n e)
-      go (suc m) e = simp e
-
-  module _ (p : item_refusal s a y ≡ 0) where
-    pub items-second : (item_refusal s b z ≡ 0 → ⊥) → item_refusal s b z ≡ items_refusal s a y b z
-    unfolding items_refusal
-    items-second n = go (item_refusal s b z) refl
-      where
-        go : (m : ℕ) → item_refusal s b z ≡ m → item_refusal s b z ≡ items_refusal s a y b z
-        go zero e = absurd (n e)
-        go (suc m) e = simp (p, e)
-
-    pub items-same : item_refusal s b z ≡ 0 → y ≡ z → 0 ≡ items_refusal s a y b z
-    unfolding items_refusal
-    items-same q e = simp (p, q, eq-eqb y z e)
-
-    pub items-differ : item_refusal s b z ≡ 0 → (y ≡ z → ⊥) → sizes_differ ≡ items_refusal s a y b z
-    unfolding items_refusal
-    items-differ q d = simp (p, q, ne_eqb y z d)
-
 -- an item that passes goes on to what follows
 pub item-given : {A : Type 0} (s : Addresses) (a z : ℕ) (o : Outcome A) → item_refusal s a z ≡ 0 → o ≡ given_item s a z o
 item-given s a z o r = rw r
 
--- the ways through each call on items, for pages and frames alike
+-- a step from an item that passes, where it is to an address, for pages and frames alike
 module _ (s : Addresses) (a z n : ℕ) (r : item_refusal s a z ≡ 0) where
-  pub plus-overflow : 2 ^ 64 ≤ a + n * z → refuses overflow ≡ plus_item s a z n
-  plus-overflow h = simp (r, le-ltb (a + n * z) (2 ^ 64) h)
-
-  pub plus-outside : a + n * z < 2 ^ 64 → s.holds (a + n * z) ≡ false → refuses s.result ≡ plus_item s a z n
-  plus-outside h f = simp (r, lt-ltb (a + n * z) (2 ^ 64) h, f)
-
   pub plus-gives : a + n * z < 2 ^ 64 → s.holds (a + n * z) ≡ true → gives (item (a + n * z) z) ≡ plus_item s a z n
   plus-gives h t = simp (r, lt-ltb (a + n * z) (2 ^ 64) h, t)
-
-  pub minus-overflow : a < n * z → refuses overflow ≡ minus_item s a z n
-  minus-overflow h = simp (r, lt-leb (n * z) a h)
-
-  pub minus-outside : n * z ≤ a → s.holds (a - n * z) ≡ false → refuses s.result ≡ minus_item s a z n
-  minus-outside h f = simp (r, le-leb (n * z) a h, f)
 
   pub minus-gives : n * z ≤ a → s.holds (a - n * z) ≡ true → gives (item (a - n * z) z) ≡ minus_item s a z n
   minus-gives h t = simp (r, le-leb (n * z) a h, t)

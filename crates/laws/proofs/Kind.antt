@@ -4,8 +4,7 @@ use Rattle.std.proofs.Math.Option.{Option, none, some}
 use Rattle.answer.specs.Outcome.{gives, refuses, unless_refused}
 use Rattle.laws.specs.Draw.{Draw}
 use Rattle.laws.specs.Drawing.{Drawn}
-use Rattle.laws.specs.Item.{item}
-use Rattle.laws.specs.Kind.{Kind, GuardedDraw, guarded, RangeDraw, item_answer, settled, drawn_unless, drawn, drawn_of}
+use Rattle.laws.specs.Kind.{Kind, GuardedDraw, guarded, item_answer, settled, drawn_unless, drawn, drawn_of}
 
 module _ {P R : Type 0} (k : Kind P) (made : P → P → R) (x y : P) where
   -- what a draw on the numbers gives or with what it is refused
@@ -22,13 +21,6 @@ module _ {P R : Type 0} (k : Kind P) (made : P → P → R) (x y : P) where
       go : (n : ℕ) (b : Draw) → refuses m ≡ unless_refused n (gives b) → record { answer = refuses m; range = made x y } ≡ drawn_unless k made x y n b
       go zero b f = cc
       go (suc n) b f = let q : m ≡ suc n = cc in rw q refl
-
-  pub drawn-refused : (m : ℕ) (d : Draw) → (m ≡ 0 → ⊥) → record { answer = refuses m; range = made x y } ≡ drawn_unless k made x y m d
-  drawn-refused zero d h = absurd (h refl)
-  drawn-refused (suc m) d h = refl
-
-  pub drawn-settled : (m : ℕ) (d : Draw) → m ≡ 0 → settled k made x y d ≡ drawn_unless k made x y m d
-  drawn-settled m d h = rw h
 
   -- where an item placed at a number starts there, the same as what is given and left
   module _ (p : (a : ℕ) → (k.item (k.placed x a)).start ≡ a) where

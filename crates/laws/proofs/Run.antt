@@ -5,14 +5,13 @@ use mathlib.Core.Bool.{cond}
 use mathlib.Core.List.{List, [], ◌∷◌, ◌++◌, reverse, reverse-append}
 use mathlib.Core.Option.{none, some}
 use native.Mathlib.Omega.{arith}
-use native.Mathlib.Decide.{dec_le, dec_lt}
-use native.Mathlib.Nat.{zero-mul, suc-mul, min-le_right, suc-min-suc, zero-min, suc-sub-suc, sub-zero, zero-sub, add-zero, add_assoc, add_comm, div-mul-le_self, sub-eq-zero_of_le, le_of_lt, div-eq_of_lt, zero-div, div-eq-sub-div, sub-add-eq, mul-le-mul_right, add-div_right, le_trans, le_of_eq, mul-le-mul_left, div-lt_iff_lt-mul}
+use native.Mathlib.Decide.{dec_le}
+use native.Mathlib.Nat.{zero-mul, suc-mul, suc-min-suc, zero-min, suc-sub-suc, sub-zero, zero-sub, add-zero, add_assoc, add_comm, div-mul-le_self, sub-eq-zero_of_le, le_of_lt, div-eq_of_lt, zero-div, div-eq-sub-div, sub-add-eq, mul-le-mul_right, add-div_right, le_trans, mul-le-mul_left}
 use borrow.Author.Tests.{lt-ltb, le-ltb}
 use lib.Dec.{ltb, leb-zero, leb-suc-zero, leb-suc-suc}
 use lib.ListN.{length, get_elem?, drop}
 use lib.Seq.{drop-nil}
 use Rattle.laws.specs.Run.{run, len_below, len_through, below}
-use Rattle.laws.proofs.Cases.{by_cases}
 
 pub run_length : (a s k : ℕ) → length (run a s k) ≡ k
 unfolding run
@@ -85,10 +84,6 @@ fits_below a b s = omega (arith, div-mul-le_self (b - a) s)
 pub last-below : (a b s : ℕ) → a + (len_below a b s - 1) * s ≤ max a b
 last-below a b s = omega (arith, fits_below a b s, mul-le-mul_right {m = len_below a b s - 1} {n = len_below a b s} s (omega arith))
 
--- of k items a draw takes j
-pub taken-below : (a b s n k j : ℕ) → k ≡ len_below a b s → j ≡ min (n + 1) k → a + j * s ≤ max a b
-taken-below a b s n k j e f = omega (arith, mul-le-mul_right s (le_trans (le_of_eq f) (min-le_right (n + 1) k)), ap (λ (x : ℕ). x * s) e, fits_below a b s)
-
 -- an inclusive range is as long as the exclusive one whose end is one step on
 pub through-is : (a b s : ℕ) → 0 < s → len_through a b s ≡ len_below a (b + s) s
 unfolding len_through len_below
@@ -108,16 +103,6 @@ last-through a b s = go (dec_le a b)
     go : Dec (a ≤ b) → a + (cond (ltb b a) 0 ((b - a) / s + 1) - 1) * s ≤ max a b
     go (yes h) = let e : (b - a) / s + 1 - 1 ≡ (b - a) / s = omega arith in rw (le-ltb b a h, e) (omega (arith, div-mul-le_self (b - a) s))
     go (no h) = rw (lt-ltb b a (omega arith)) (omega (arith, zero-mul s))
-
--- n steps on from a are past top, by how many steps fit up to it
-pub past_top : (a s n top : ℕ) → 0 < s → a ≤ top → ltb ((top - a) / s) n ≡ ltb top (a + n * s)
-past_top a s n top p h =
-    by_cases (dec_lt (top - a) (n * s))
-    (λ k. lt-ltb ((top - a) / s) n ((div-lt_iff_lt-mul {k = s} {x = top - a} {y = n} p).1 k) ∙ sym (lt-ltb top (a + n * s) (omega arith)))
-    (λ k. le-ltb ((top - a) / s) n (not-lt (λ m. k ((div-lt_iff_lt-mul {k = s} {x = top - a} {y = n} p).0 m))) ∙ sym (le-ltb top (a + n * s) (omega arith)))
-  where
-    not-lt : {x y : ℕ} → (x < y → ⊥) → y ≤ x
-    not-lt m = omega arith
 
 -- a step above 1 goes at most half as often
 pub half : (x s : ℕ) → 1 < s → x / s * 2 ≤ x

@@ -20,7 +20,7 @@ use Rattle.paging.specs.Memory.{table_from}
 use Rattle.paging.specs.Pages.{pages_by}
 use Rattle.paging.specs.Progress.{finds_nothing, GoesOn, Passes}
 use Rattle.paging.specs.Span.{after}
-use Rattle.paging.proofs.Remembering.{marking-true, marking-length}
+use Rattle.paging.proofs.Remembering.{marking-true}
 
 module _ (mask : ℕ) (memory : ℕ → Option (List ℕ)) (l : ℕ) (t : List ℕ) (r : Rights) (a : ℕ) where
   abbrev pages : ℕ → PageState
@@ -56,10 +56,3 @@ module _ (mask : ℕ) (memory : ℕ → Option (List ℕ)) (words : List ℕ) (p
           (now-empty mask memory (n + 1) (table_from words p) r a s g y u (eqb-true (a % span_pages (n + 1)) 0 f) q e)
       go true e false f = t
       go false e c f = t
-
-pub whole_length : (bytes : List ℕ) (nothing : Bool) (p n x : ℕ) → length (marking_whole bytes nothing p n x) ≡ length bytes
-whole_length bytes nothing p n x = go (nothing && eqb (x % span_pages (n % 8 + 1)) 0)
-  where
-    go : (b : Bool) → length (cond b (marking bytes p n) bytes) ≡ length bytes
-    go true = marking-length bytes p n
-    go false = refl

@@ -43,19 +43,12 @@ passes-le {f} {a} {e} {s} {t} {y} i p = pass_le f a e s t y i p.comes
 pub passes_then : {f : ℕ → PageState} {a x m : ℕ} {s t u : Progress} {y : ℕ} → a ≤ x → x ≤ m → Passes f a x s t x → Passes f x m t u y → Passes f a m s u y
 passes_then {f} {a} {x} {m} {s} {t} i j p q = record { comes = pass_on f a x m i j s t x p.comes (omega arith) ∙ q.comes; holds = q.holds }
 
-pub passes_on : {f : ℕ → PageState} {a x m : ℕ} {s t u : Progress} → a ≤ x → x ≤ m → Passes f a x s t x → Passes f x m t u m → Passes f a m s u m
-passes_on = passes_then
-
 pub passes-in : {f : ℕ → PageState} {a x m : ℕ} {s t u : Progress} {y e : ℕ} → a ≤ x → x ≤ m → m ≤ e → y < m → Passes f a x s t x → Passes f x m t u y → Passes f a e s u y
 passes-in {f} {a} {x} {m} {s} {t} {u} {y} {e} i j b l p q = record { comes = pass-inside f a m e (omega arith) b s u y (passes_then i j p q).comes l; holds = q.holds }
 
 -- only the pages gone over count
 pub passes-congr : {f g : ℕ → PageState} {a e : ℕ} {s t : Progress} {y : ℕ} → a ≤ e → ((x : ℕ) → a ≤ x → x < e → f x ≡ g x) → Passes g a e s t y → Passes f a e s t y
 passes-congr {f} {g} {a} {e} {s} i h p = record { comes = pass-congr f g a e s i h ∙ p.comes; holds = p.holds }
-
--- a page with the run's rights belongs to the run, or ends it by its frame
-pub take_same : (q c x g : ℕ) (k h : Rights) → k ≡ h → Takes x g h (running q c k) (running q c k) (eqb (c + (x - q)) g)
-take_same q c x g k h e = record { found = refl; answer = rw (eq-eqb (rights_bits k) (rights_bits h) (ap rights_bits e)) }
 
 -- over pages that are alike, from a up to m
 module _ {f : ℕ → PageState} {a m : ℕ} (i : a < m) where

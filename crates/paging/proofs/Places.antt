@@ -1,4 +1,4 @@
--- A part that is the whole, and the places of tables in a list of segments.
+-- The places of tables in a list of segments, and the words there.
 use Prim.Native.Nat.{ℕ, ◌+◌, ◌-◌, ◌<◌, ◌≤◌, min}
 use mathlib.Core.Path.{◌≡◌, refl, ap, ◌∙◌}
 use mathlib.Core.Bool.{Bool, true, false, cond, ◌&&◌}
@@ -7,12 +7,9 @@ use mathlib.Core.Option.{some}
 use native.Mathlib.Omega.{arith}
 use borrow.Author.Tests.{leb-true}
 use lib.Dec.{leb}
-use lib.ListN.{length, get_or, take, drop}
-use lib.Seq.{take_all, get_or-take, get_or-drop}
+use lib.ListN.{get_or, drop}
+use lib.Seq.{get_or-take, get_or-drop}
 use Rattle.paging.specs.Memory.{Segment, word_index, inside_of, place_from, table_from, total, reaching}
-
-pub whole_part : (words : List ℕ) → take (length words - 0) (drop 0 words) ≡ words
-whole_part words = take_all (length words - 0) words (omega arith)
 
 -- the words of a table at a place
 pub table-word : (words : List ℕ) (p i : ℕ) → i < 512 → get_or (table_from words p) i 0 ≡ get_or words (p + i) 0

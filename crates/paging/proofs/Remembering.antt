@@ -9,12 +9,12 @@ use native.Mathlib.Decide.{ℕ_discrete, dec_lt}
 use native.Mathlib.Nat.{mod-lt, mod-eq_of_lt, div-eq_of_lt}
 use native.Mathlib.Omega.{arith}
 use borrow.Author.Tests.{eqb-true, ltb-true}
-use lib.Bits.{bit_or, or_lt, or_shr, or_mod}
+use lib.Bits.{bit_or, or_shr, or_mod}
 use lib.Dec.{lit<, eqb, ltb}
 use lib.ListN.{length, length-set, get_or, take, drop, replicate, length-replicate, get_or-replicate, replicate-append-replicate}
 use lib.ListN as list
-use lib.Pow.{pow-lt, pow-add, shl-shr, shl_exact}
-use lib.Seq.{get_or-set_same, get_or-set_other, take_all}
+use lib.Pow.{pow-lt, pow-add, shl-shr}
+use lib.Seq.{get_or-set_same, get_or-set_other}
 use Rattle.laws.proofs.Cases.{by_cases}
 use Rattle.mapping.specs.Walk.{Entry, HoldsNothing}
 use Rattle.paging.specs.Entry.{set}
@@ -61,10 +61,6 @@ has-place bytes p e =
     let t = and_parts (eqb (p % 512) 0) (ltb (p / 512) (length bytes)) e in
     (omega (arith, eqb-true (p % 512) 0 t.0), ltb-true (p / 512) (length bytes) t.1)
 
--- whether it has one, where the code lends all of the bytes as a part
-pub whole_has : {r b : Bool} (bytes : List ℕ) (p : ℕ) → r ≡ has_byte (take (length bytes - 0) (drop 0 bytes)) p → r ≡ b → has_byte bytes p ≡ b
-whole_has bytes p e h = sym (ap (λ (l : List ℕ). has_byte l p) (take_all (length bytes - 0) bytes (omega arith))) ∙ sym e ∙ h
-
 module _ (entry : ℕ → ℕ → Entry) (memory : ℕ → Option (List ℕ)) (words bytes : List ℕ) (t : TrueOf entry memory words bytes) where
   -- what is marked is true
   pub marked-true : (p n : ℕ) → n < 8 → marked bytes p n ≡ true → HoldsNothing entry memory (n + 1) (table_from words p)
@@ -100,17 +96,3 @@ module _ (entry : ℕ → ℕ → Entry) (memory : ℕ → Option (List ℕ)) (w
           (λ j. rw j (same e m (rw (j, get_or-set_same bytes (p / 512) (bit_or (get_or bytes (p / 512) 0) (2 ^ n)) 0 h.1) at s)))
           (λ j. t i m k (rw (get_or-set_other bytes (p / 512) i (bit_or (get_or bytes (p / 512) 0) (2 ^ n)) 0 j) at s))
       go false e i m q s = t i m q s
-
-pub marking-length : (bytes : List ℕ) (p n : ℕ) → length (marking bytes p n) ≡ length bytes
-marking-length bytes p n = go (has_byte bytes p)
-  where
-    go : (b : Bool) → length (cond b (list.set bytes (p / 512) (bit_or (get_or bytes (p / 512) 0) (2 ^ (n % 8)))) bytes) ≡ length bytes
-    go true = length-set bytes (p / 512) (bit_or (get_or bytes (p / 512) 0) (2 ^ (n % 8)))
-    go false = refl
-
--- as the code sets one
-one_shifted : (n : ℕ) → 1 * 2 ^ (n % 8) % 2 ^ 64 ≡ 2 ^ (n % 8)
-one_shifted n = shl_exact 1 (n % 8) 64 (lit< tt) (omega arith) ∙ omega arith
-
-pub byte_fits : (b n : ℕ) → b < 256 → bit_or b (1 * 2 ^ (n % 8) % 2 ^ 64) < 256
-byte_fits b n h = rw (one_shifted n) (or_lt 8 b (2 ^ (n % 8)) h (pow-lt (mod-lt n (lit< tt))))

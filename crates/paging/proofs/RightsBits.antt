@@ -1,5 +1,5 @@
 -- Rights by the bits that all words have, and as three bits.
-use Prim.Native.Nat.{ℕ, zero, suc, ◌+◌, ◌-◌, ◌*◌, ◌/◌, ◌%◌, ◌^◌, ◌<◌}
+use Prim.Native.Nat.{ℕ, zero, suc, ◌+◌, ◌*◌, ◌/◌, ◌%◌, ◌^◌, ◌<◌}
 use mathlib.Core.Path.{◌≡◌, refl}
 use mathlib.Core.Bool.{Bool, true, false, cond, not}
 use native.Mathlib.Omega.{arith}
@@ -52,23 +52,6 @@ rights-step all v =
       set-kept 2 v refl,
       not-and (set 63 all) (set 63 v),
     )
-
--- a bit by its number
-pub digit_set : (k v : ℕ) → digit (set k v) ≡ v / 2 ^ k % 2
-digit_set k v = go (v / 2 ^ k % 2) (mod-lt (v / 2 ^ k) (lit< tt))
-  where
-    go : (x : ℕ) → x < 2 → digit (eqb x 1) ≡ x
-    go zero p = refl
-    go (suc zero) p = refl
-    go (suc (suc x)) p = absurd (omega arith)
-
-pub digit_clear : (k v : ℕ) → digit (not (set k v)) ≡ 1 - v / 2 ^ k % 2
-digit_clear k v = go (v / 2 ^ k % 2) (mod-lt (v / 2 ^ k) (lit< tt))
-  where
-    go : (x : ℕ) → x < 2 → digit (not (eqb x 1)) ≡ 1 - x
-    go zero p = refl
-    go (suc zero) p = refl
-    go (suc (suc x)) p = absurd (omega arith)
 
 -- three bits have the rights that they stand for
 pub bits-from : (h : Rights) → rights_from (rights_bits h) ≡ h

@@ -18,10 +18,6 @@ TrueOf entry memory words bytes =
 abbrev pub TrueIn : (mask : ℕ) → List Segment → (words bytes : List ℕ) → Type 0
 TrueIn mask segments words = TrueOf (entry_by mask) (table_in segments words) words
 
--- the bytes before and after: as many, and true
-abbrev pub StaysTrue : (mask : ℕ) → List Segment → (words before after : List ℕ) → Type 0
-StaysTrue mask segments words before after = (length after ≡ length before) × TrueIn mask segments words after
-
 -- whether a table at a place has a byte
 abbrev pub has_byte : List ℕ → ℕ → Bool
 has_byte bytes p = eqb (p % 512) 0 && ltb (p / 512) (length bytes)
