@@ -46,8 +46,9 @@ pub record OfSize {A : Type 0} (z : ℕ) (p x : A) : Type 0 where
   pub read : p ≡ x
   pub bytes : bytes_of (size_with z) ≡ z
 
-pub size-chosen : {A : Type 0} (z : ℕ) (x p : A) → gives p ≡ only_if (is_size z) x → OfSize z p x
-size-chosen z x p e = let h = some_holds (is_size z) p x e in record { is-size = h.0; read = h.1; bytes = bytes_with z h.0 }
+module _ {A : Type 0} (z : ℕ) (x : A) where
+  pub size-chosen : (p : A) → gives p ≡ only_if (is_size z) x → OfSize z p x
+  size-chosen p e = let h = some_holds (is_size z) p x e in record { is-size = h.0; read = h.1; bytes = bytes_with z h.0 }
 
 -- what the choice of a level says, as the proofs of the calls cite it
 pub ruleset levels = (level-chosen, level-missing)
