@@ -5,7 +5,6 @@
 
 ghost use Rattle.std.specs.Prelude.{◌≡◌};
 ghost use Rattle.answer.specs.Answers.{bool_of, outcome_of, optional_of};
-ghost use Rattle.table.specs.Answers.{level_answer_of};
 ghost use Rattle.status.specs.Convention.{left, leaves, word, truth};
 ghost use Rattle.convention.specs.Items.{start_word};
 
@@ -13,7 +12,6 @@ use crate::words::Word;
 use answer::Refusal;
 use range::RangeItem;
 use status::{Status, give};
-use table::PageTableLevel;
 
 pub fn give_word<T: Word>(answer: Result<T, Refusal>, out: &mut [u64]) -> u8
     ensures { left result out.new ≡ leaves (word (outcome_of T.word_of answer)) out.old }
@@ -33,15 +31,6 @@ pub fn give_step<T: Word>(answer: Result<Option<T>, Refusal>, out: &mut [u64]) -
         Ok(Some(x)) => give([x.word()], out),
         Ok(None) => Status::NoItem as u8,
         Err(refusal) => refusal.number(),
-    }
-}
-
-pub fn give_level(answer: Option<PageTableLevel>, out: &mut [u64]) -> u8
-    ensures { left result out.new ≡ leaves (word (level_answer_of answer)) out.old }
-{
-    match answer {
-        Some(level) => give([level.word()], out),
-        None => Status::NoItem as u8,
     }
 }
 

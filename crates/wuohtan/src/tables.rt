@@ -9,7 +9,7 @@ ghost use Rattle.table.specs.Level.{lower, higher};
 ghost use Rattle.status.specs.Convention.{left, leaves, word};
 ghost use Rattle.convention.specs.Choice.{at_level};
 
-use convention::{choose_level, give_level, give_step, give_word, saturated};
+use convention::{choose_level, give_step, give_word, saturated};
 use status::{Status, give};
 use table::{PageOffset, PageTableIndex, UpTo};
 
@@ -79,7 +79,7 @@ pub fn wuohtan_page_table_level_next_lower_level(level: u64, out: &mut [u64]) ->
     let Some(l) = choose_level(level) else {
         return Status::NoSuchChoice as u8;
     };
-    give_level(l.next_lower_level(), out)
+    give_step(Ok(l.next_lower_level()), out)
 }
 
 pub fn wuohtan_page_table_level_next_higher_level(level: u64, out: &mut [u64]) -> u8
@@ -88,7 +88,7 @@ pub fn wuohtan_page_table_level_next_higher_level(level: u64, out: &mut [u64]) -
     let Some(l) = choose_level(level) else {
         return Status::NoSuchChoice as u8;
     };
-    give_level(l.next_higher_level(), out)
+    give_step(Ok(l.next_higher_level()), out)
 }
 
 pub fn wuohtan_page_table_level_table_address_space_alignment(level: u64, out: &mut [u64]) -> u8
