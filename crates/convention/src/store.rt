@@ -6,11 +6,9 @@
 ghost use Rattle.std.specs.Prelude.{◌≡◌};
 ghost use Rattle.answer.specs.Answers.{bool_of, outcome_of, optional_of};
 ghost use Rattle.status.specs.Convention.{left, leaves, word, truth};
-ghost use Rattle.convention.specs.Items.{start_word};
 
 use crate::words::Word;
 use answer::Refusal;
-use range::RangeItem;
 use status::{Status, give};
 
 pub fn give_word<T: Word>(answer: Result<T, Refusal>, out: &mut [u64]) -> u8
@@ -39,26 +37,6 @@ pub fn give_bool(answer: Result<bool, Refusal>, out: &mut [u64]) -> u8
 {
     match answer {
         Ok(b) => give([b as u64], out),
-        Err(refusal) => refusal.number(),
-    }
-}
-
-// A page or a frame is told by its start.
-pub fn give_item<T: RangeItem>(answer: Result<T, Refusal>, out: &mut [u64]) -> u8
-    ensures { left result out.new ≡ leaves (start_word (outcome_of T.kind.item answer)) out.old }
-{
-    match answer {
-        Ok(x) => give([x.item().start], out),
-        Err(refusal) => refusal.number(),
-    }
-}
-
-pub fn give_item_step<T: RangeItem>(answer: Result<Option<T>, Refusal>, out: &mut [u64]) -> u8
-    ensures { left result out.new ≡ leaves (start_word (optional_of T.kind.item answer)) out.old }
-{
-    match answer {
-        Ok(Some(x)) => give([x.item().start], out),
-        Ok(None) => Status::NoItem as u8,
         Err(refusal) => refusal.number(),
     }
 }

@@ -4,6 +4,8 @@ ghost use Rattle.std.specs.Prelude.{◌≡◌, ℕ};
 ghost use Rattle.table.specs.Level.{level_of};
 
 use addr::VirtAddr;
+use frame::PhysFrame;
+use page::Page;
 use phys::PhysAddr;
 use table::{PageTableLevel, UpTo};
 
@@ -51,5 +53,22 @@ impl Word for PageTableLevel {
 
     fn word(self) -> u64 {
         self.number() as u64
+    }
+}
+
+// A page or a frame is told by its start: its size is the one handed in.
+impl Word for Page {
+    ghost word_of = { λ p. p.start_address.0 };
+
+    fn word(self) -> u64 {
+        self.start_address.0
+    }
+}
+
+impl Word for PhysFrame {
+    ghost word_of = { λ f. f.start_address.0 };
+
+    fn word(self) -> u64 {
+        self.start_address.0
     }
 }

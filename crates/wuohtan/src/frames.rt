@@ -9,7 +9,7 @@ ghost use Rattle.status.specs.Convention.{left, leaves, word};
 ghost use Rattle.convention.specs.Items.{start_word};
 ghost use Rattle.convention.specs.Choice.{of_size};
 
-use convention::{choose, choose_range, choose_size, give_item, give_word};
+use convention::{choose, choose_range, choose_size, give_word};
 use frame::PhysFrame;
 use phys::PhysAddr;
 use status::Status;
@@ -20,7 +20,7 @@ pub fn wuohtan_phys_frame_from_start_address(address: u64, size: u64, out: &mut 
     let Some(s) = choose_size(size) else {
         return Status::NoSuchChoice as u8;
     };
-    give_item(PhysFrame::from_start_address(PhysAddr(address), s), out)
+    give_word(PhysFrame::from_start_address(PhysAddr(address), s), out)
 }
 
 pub fn wuohtan_phys_frame_from_pfn(pfn: u64, size: u64, out: &mut [u64]) -> u8
@@ -29,7 +29,7 @@ pub fn wuohtan_phys_frame_from_pfn(pfn: u64, size: u64, out: &mut [u64]) -> u8
     let Some(s) = choose_size(size) else {
         return Status::NoSuchChoice as u8;
     };
-    give_item(PhysFrame::from_pfn(pfn, s), out)
+    give_word(PhysFrame::from_pfn(pfn, s), out)
 }
 
 pub fn wuohtan_phys_frame_try_from_pfn(pfn: u64, size: u64, out: &mut [u64]) -> u8
@@ -38,7 +38,7 @@ pub fn wuohtan_phys_frame_try_from_pfn(pfn: u64, size: u64, out: &mut [u64]) -> 
     let Some(s) = choose_size(size) else {
         return Status::NoSuchChoice as u8;
     };
-    give_item(PhysFrame::try_from_pfn(pfn, s), out)
+    give_word(PhysFrame::try_from_pfn(pfn, s), out)
 }
 
 pub fn wuohtan_phys_frame_containing_address(address: u64, size: u64, out: &mut [u64]) -> u8
@@ -47,7 +47,7 @@ pub fn wuohtan_phys_frame_containing_address(address: u64, size: u64, out: &mut 
     let Some(s) = choose_size(size) else {
         return Status::NoSuchChoice as u8;
     };
-    give_item(PhysFrame::containing_address(PhysAddr(address), s), out)
+    give_word(PhysFrame::containing_address(PhysAddr(address), s), out)
 }
 
 pub fn wuohtan_phys_frame_start_address(start: u64, size: u64, out: &mut [u64]) -> u8
@@ -83,7 +83,7 @@ pub fn wuohtan_phys_frame_add(start: u64, size: u64, count: u64, out: &mut [u64]
     let Some(frame) = choose::<PhysFrame>(start, size) else {
         return Status::NoSuchChoice as u8;
     };
-    give_item(frame.add(count), out)
+    give_word(frame.add(count), out)
 }
 
 pub fn wuohtan_phys_frame_sub(start: u64, size: u64, count: u64, out: &mut [u64]) -> u8
@@ -92,7 +92,7 @@ pub fn wuohtan_phys_frame_sub(start: u64, size: u64, count: u64, out: &mut [u64]
     let Some(frame) = choose::<PhysFrame>(start, size) else {
         return Status::NoSuchChoice as u8;
     };
-    give_item(frame.sub(count), out)
+    give_word(frame.sub(count), out)
 }
 
 pub fn wuohtan_phys_frame_sub_frame(

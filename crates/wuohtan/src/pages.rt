@@ -11,8 +11,7 @@ ghost use Rattle.convention.specs.Choice.{at_level, of_size};
 
 use addr::VirtAddr;
 use convention::{
-    choose, choose_level, choose_range, choose_size, give_item, give_item_step, give_step,
-    give_word, saturated,
+    choose, choose_level, choose_range, choose_size, give_step, give_word, saturated,
 };
 use page::Page;
 use status::Status;
@@ -24,7 +23,7 @@ pub fn wuohtan_page_from_start_address(address: u64, size: u64, out: &mut [u64])
     let Some(s) = choose_size(size) else {
         return Status::NoSuchChoice as u8;
     };
-    give_item(Page::from_start_address(VirtAddr(address), s), out)
+    give_word(Page::from_start_address(VirtAddr(address), s), out)
 }
 
 pub fn wuohtan_page_containing_address(address: u64, size: u64, out: &mut [u64]) -> u8
@@ -33,7 +32,7 @@ pub fn wuohtan_page_containing_address(address: u64, size: u64, out: &mut [u64])
     let Some(s) = choose_size(size) else {
         return Status::NoSuchChoice as u8;
     };
-    give_item(Page::containing_address(VirtAddr(address), s), out)
+    give_word(Page::containing_address(VirtAddr(address), s), out)
 }
 
 pub fn wuohtan_page_start_address(start: u64, size: u64, out: &mut [u64]) -> u8
@@ -115,7 +114,7 @@ pub fn wuohtan_page_from_page_table_indices(
     let p3 = UpTo(saturated(p3_index));
     let p2 = UpTo(saturated(p2_index));
     let p1 = UpTo(saturated(p1_index));
-    give_item(Page::from_page_table_indices(p4, p3, p2, p1), out)
+    give_word(Page::from_page_table_indices(p4, p3, p2, p1), out)
 }
 
 pub fn wuohtan_page_from_page_table_indices_2mib(
@@ -129,7 +128,7 @@ pub fn wuohtan_page_from_page_table_indices_2mib(
     let p4 = UpTo(saturated(p4_index));
     let p3 = UpTo(saturated(p3_index));
     let p2 = UpTo(saturated(p2_index));
-    give_item(Page::from_page_table_indices_2mib(p4, p3, p2), out)
+    give_word(Page::from_page_table_indices_2mib(p4, p3, p2), out)
 }
 
 pub fn wuohtan_page_from_page_table_indices_1gib(
@@ -141,7 +140,7 @@ pub fn wuohtan_page_from_page_table_indices_1gib(
 {
     let p4 = UpTo(saturated(p4_index));
     let p3 = UpTo(saturated(p3_index));
-    give_item(Page::from_page_table_indices_1gib(p4, p3), out)
+    give_word(Page::from_page_table_indices_1gib(p4, p3), out)
 }
 
 pub fn wuohtan_page_add(start: u64, size: u64, count: u64, out: &mut [u64]) -> u8
@@ -150,7 +149,7 @@ pub fn wuohtan_page_add(start: u64, size: u64, count: u64, out: &mut [u64]) -> u
     let Some(page) = choose::<Page>(start, size) else {
         return Status::NoSuchChoice as u8;
     };
-    give_item(page.add(count), out)
+    give_word(page.add(count), out)
 }
 
 pub fn wuohtan_page_sub(start: u64, size: u64, count: u64, out: &mut [u64]) -> u8
@@ -159,7 +158,7 @@ pub fn wuohtan_page_sub(start: u64, size: u64, count: u64, out: &mut [u64]) -> u
     let Some(page) = choose::<Page>(start, size) else {
         return Status::NoSuchChoice as u8;
     };
-    give_item(page.sub(count), out)
+    give_word(page.sub(count), out)
 }
 
 pub fn wuohtan_page_sub_page(
@@ -185,7 +184,7 @@ pub fn wuohtan_page_forward_checked(start: u64, size: u64, count: u64, out: &mut
     let Some(page) = choose::<Page>(start, size) else {
         return Status::NoSuchChoice as u8;
     };
-    give_item_step(Page::forward_checked(page, count), out)
+    give_step(Page::forward_checked(page, count), out)
 }
 
 pub fn wuohtan_page_backward_checked(start: u64, size: u64, count: u64, out: &mut [u64]) -> u8
@@ -194,7 +193,7 @@ pub fn wuohtan_page_backward_checked(start: u64, size: u64, count: u64, out: &mu
     let Some(page) = choose::<Page>(start, size) else {
         return Status::NoSuchChoice as u8;
     };
-    give_item_step(Page::backward_checked(page, count), out)
+    give_step(Page::backward_checked(page, count), out)
 }
 
 pub fn wuohtan_page_steps_between_u64(
