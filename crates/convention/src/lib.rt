@@ -15,5 +15,5 @@ pub use choices::{
 pub use images::{LISTED_WORDS, give_listed, give_search, give_translation};
 pub use items::ItemAt;
 pub use ranges::{give_draw, give_range, give_range_inclusive};
-pub use store::{give_bool, give_step, give_word};
+pub use store::{give_step, give_word};
 pub use words::Word;

@@ -4,8 +4,8 @@
 #![tactic(auto, unfolding(status::specs::Convention::leaves))]
 
 ghost use Rattle.std.specs.Prelude.{◌≡◌};
-ghost use Rattle.answer.specs.Answers.{bool_of, outcome_of, optional_of};
-ghost use Rattle.status.specs.Convention.{left, leaves, word, truth};
+ghost use Rattle.answer.specs.Answers.{outcome_of, optional_of};
+ghost use Rattle.status.specs.Convention.{left, leaves, word};
 
 use crate::words::Word;
 use answer::Refusal;
@@ -28,15 +28,6 @@ pub fn give_step<T: Word>(answer: Result<Option<T>, Refusal>, out: &mut [u64]) -
     match answer {
         Ok(Some(x)) => give([x.word()], out),
         Ok(None) => Status::NoItem as u8,
-        Err(refusal) => refusal.number(),
-    }
-}
-
-pub fn give_bool(answer: Result<bool, Refusal>, out: &mut [u64]) -> u8
-    ensures { left result out.new ≡ leaves (truth (bool_of answer)) out.old }
-{
-    match answer {
-        Ok(b) => give([b as u64], out),
         Err(refusal) => refusal.number(),
     }
 }

@@ -1,6 +1,6 @@
 // What the C interface tells in one word. No Into<u64>: the word of a number that is no address, index or
 // offset is told by the call that refuses it, so there is no such conversion for users.
-ghost use Rattle.std.specs.Prelude.{◌≡◌, ℕ};
+ghost use Rattle.std.specs.Prelude.{◌≡◌, ℕ, cond};
 ghost use Rattle.table.specs.Level.{level_of};
 
 use addr::VirtAddr;
@@ -21,6 +21,15 @@ impl Word for u64 {
 
     fn word(self) -> u64 {
         self
+    }
+}
+
+// A truth value is told as 1 or 0.
+impl Word for bool {
+    ghost word_of = { λ b. cond b 1 0 };
+
+    fn word(self) -> u64 {
+        self as u64
     }
 }
 

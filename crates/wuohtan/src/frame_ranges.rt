@@ -10,8 +10,7 @@ ghost use Rattle.convention.specs.Choice.{of_size};
 ghost use Rattle.convention.specs.Ranges.{pair, frame_draw_words, frame_draw_inclusive_words, frame_range_at, frame_range_inclusive_at};
 
 use convention::{
-    choose_range, choose_range_inclusive, give_bool, give_draw, give_range, give_range_inclusive,
-    give_word,
+    choose_range, choose_range_inclusive, give_draw, give_range, give_range_inclusive, give_word,
 };
 use frame::PhysFrame;
 use status::Status;
@@ -43,7 +42,7 @@ pub fn wuohtan_phys_frame_range_is_empty(
     let Some(range) = choose_range::<PhysFrame>(start, start_size, end, end_size) else {
         return Status::NoSuchChoice as u8;
     };
-    give_bool(range.is_empty(), out)
+    give_word(range.is_empty(), out)
 }
 
 pub fn wuohtan_phys_frame_range_len(
@@ -169,7 +168,7 @@ pub fn wuohtan_phys_frame_range_inclusive_is_empty(
     let Some(range) = choose_range_inclusive::<PhysFrame>(start, start_size, end, end_size) else {
         return Status::NoSuchChoice as u8;
     };
-    give_bool(range.is_empty(), out)
+    give_word(range.is_empty(), out)
 }
 
 pub fn wuohtan_phys_frame_range_inclusive_len(

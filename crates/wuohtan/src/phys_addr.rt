@@ -4,7 +4,7 @@ ghost use Rattle.answer.specs.Outcome.{gives};
 ghost use Rattle.laws.specs.Address.{phys, phys_size, address, is_null, is_aligned, plus, minus, distance, align_down_phys, align_up_phys};
 ghost use Rattle.status.specs.Convention.{left, leaves, word, truth};
 
-use convention::{give_bool, give_word};
+use convention::give_word;
 use phys::PhysAddr;
 use status::give;
 
@@ -41,7 +41,7 @@ pub fn wuohtan_phys_addr_as_u64(addr: u64, out: &mut [u64]) -> u8
 pub fn wuohtan_phys_addr_is_null(addr: u64, out: &mut [u64]) -> u8
     ensures { left result out.new ≡ leaves (truth (is_null (phys 52) addr)) out.old }
 {
-    give_bool(PhysAddr(addr).is_null(), out)
+    give_word(PhysAddr(addr).is_null(), out)
 }
 
 pub fn wuohtan_phys_addr_align_up(addr: u64, align: u64, out: &mut [u64]) -> u8
@@ -59,7 +59,7 @@ pub fn wuohtan_phys_addr_align_down(addr: u64, align: u64, out: &mut [u64]) -> u
 pub fn wuohtan_phys_addr_is_aligned(addr: u64, align: u64, out: &mut [u64]) -> u8
     ensures { left result out.new ≡ leaves (truth (is_aligned (phys 52) addr align)) out.old }
 {
-    give_bool(PhysAddr(addr).is_aligned(align), out)
+    give_word(PhysAddr(addr).is_aligned(align), out)
 }
 
 pub fn wuohtan_phys_addr_add(addr: u64, count: u64, out: &mut [u64]) -> u8

@@ -9,7 +9,7 @@ ghost use Rattle.status.specs.Convention.{left, leaves, word, truth};
 ghost use Rattle.convention.specs.Choice.{at_level};
 
 use addr::VirtAddr;
-use convention::{choose_level, give_bool, give_step, give_word};
+use convention::{choose_level, give_step, give_word};
 use status::{Status, give};
 
 pub fn wuohtan_virt_addr_new(addr: u64, out: &mut [u64]) -> u8
@@ -45,7 +45,7 @@ pub fn wuohtan_virt_addr_as_u64(addr: u64, out: &mut [u64]) -> u8
 pub fn wuohtan_virt_addr_is_null(addr: u64, out: &mut [u64]) -> u8
     ensures { left result out.new ≡ leaves (truth (is_null (virt 48) addr)) out.old }
 {
-    give_bool(VirtAddr(addr).is_null(), out)
+    give_word(VirtAddr(addr).is_null(), out)
 }
 
 pub fn wuohtan_virt_addr_align_up(addr: u64, align: u64, out: &mut [u64]) -> u8
@@ -63,7 +63,7 @@ pub fn wuohtan_virt_addr_align_down(addr: u64, align: u64, out: &mut [u64]) -> u
 pub fn wuohtan_virt_addr_is_aligned(addr: u64, align: u64, out: &mut [u64]) -> u8
     ensures { left result out.new ≡ leaves (truth (is_aligned (virt 48) addr align)) out.old }
 {
-    give_bool(VirtAddr(addr).is_aligned(align), out)
+    give_word(VirtAddr(addr).is_aligned(align), out)
 }
 
 pub fn wuohtan_virt_addr_add(addr: u64, count: u64, out: &mut [u64]) -> u8
