@@ -4,7 +4,8 @@
     python3 tools/twins.py [COMMIT]
 
 A group is two or more functions with the same text once every name and number in the signature and the body is
-replaced by one sign; clauses, attributes and comments are left out, and so are functions of fewer than 30 signs.
+replaced by one sign; clauses, attributes, comments and a comma before a closing bracket are left out, and so are
+functions of fewer than 30 signs.
 """
 import re
 import subprocess
@@ -39,6 +40,7 @@ def functions(text):
 
 
 def shape(code):
+    code = re.sub(r",(\s*[)}\]])", r"\1", code)
     words = re.findall(r"[A-Za-z_]\w*|0x[0-9a-f_]+|\d[\d_]*|\S", code)
     keep = {"if", "else", "let", "match", "return", "while", "for", "in", "mut", "self", "Self", "as"}
     return tuple(w if w in keep or not re.match(r"\w", w) else "x" for w in words)

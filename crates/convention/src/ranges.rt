@@ -1,4 +1,5 @@
-// Ranges and draws, stored. The two types of ranges have a function each.
+// Ranges and draws, stored. The two types of ranges have a function each, and so have their choices: a trait over
+// both, with an implementation for each, would be no plainer.
 #![tactic(auto, unfolding(status::specs::Convention::leaves))]
 
 ghost use Rattle.std.specs.Prelude.{◌≡◌};

@@ -1,6 +1,4 @@
-// Answers, stored: each gives its status, and its words at the start of the lent slice. Each matches its answer by
-// itself: one function of the words would take them by a closure, which in a generic function needs a clause of its
-// own, so none would be shorter.
+// Answers, stored: each gives its status, and its words at the start of the lent slice.
 #![tactic(auto, unfolding(status::specs::Convention::leaves))]
 
 ghost use Rattle.std.specs.Prelude.{◌≡◌};

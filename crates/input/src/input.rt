@@ -65,7 +65,8 @@ pub fn read_words(bytes: &[u8], out: &mut [u64]) -> u64
     };
     let (words, _) = rest.as_chunks::<WORD_BYTES>();
     let count = words.len().min(out.len());
-    // By index: the words of out are as many as are counted.
+    // By index: over `out.iter_mut().zip(words)` the proof did not close, since its invariant is over the references
+    // that are still to come.
     for (i, word) in words[..count].iter().enumerate() {
         out[i] = u64::from_be_bytes(*word);
     }

@@ -86,7 +86,8 @@ impl RangeItem for Page {
         }
     }
 
-    // Each draw is page_draw's of its name, at this width: a line each, and no line shorter.
+    // Each draw is page_draw's of its name at this width; a function that took the draw would have to take its contract
+    // too, and be no plainer.
     fn draw_nth_below(start: Item, end: Item, n: u64) -> Result<Draw, Refusal> {
         page_draw::nth_below(Width::Bits48, start, end, n)
     }

@@ -35,14 +35,16 @@ pub(crate) fn own_index(
 ) -> Result<PageTableIndex, Refusal>
     ensures { small_of result ≡ own_index (width_of width) (start page) (bytes page) (level_of level) }
 {
-    check(width, page.item())?;
+    let index = page_table_index(width, page, level)?;
     if level.entry_address_space_alignment() < page.size.bytes() {
         return Err(Refusal::SizesDiffer);
     }
-    Ok(level.index_of(page.start_address.0))
+    Ok(index)
 }
 
-// The page count pages on, from the low half straight into the high one; none past the last.
+// The page count pages on, from the low half straight into the high one; none past the last. `backward_checked`
+// differs in the step on addresses that it calls: one function of both would take that with its contract, and be no
+// plainer.
 #[tactic(auto, using(answer::proofs::Refused::refused_number, crate::proofs::Steps::page_start, crate::proofs::Steps::forward_past))]
 pub(crate) fn forward_checked(width: Width, page: Page, count: u64) -> Result<Option<Page>, Refusal>
     ensures { page_step_of result ≡ page_forward (width_of width) (start page) (bytes page) count }

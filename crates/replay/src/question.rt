@@ -1,11 +1,11 @@
-// A question of the list, asked of the C interface. The operations' numbers are those of
-// oracle/compare/src/operations/.
+// A question of the list, asked of the C interface: a function for each group of its calls, which C has one by one.
+// The operations' numbers are those of oracle/compare/src/operations/.
 ghost use Rattle.std.specs.Prelude.{◌≤◌};
 
 use wuohtan::{alignment, frame_ranges, frames, page_ranges, pages, phys_addr, tables, virt_addr};
 
-// A status that no call answers. It is a number and no None, since a line that records it for an operation that
-// there is none of agrees.
+// A status that no call answers, for an operation that there is none of. A number and no None: a line that records it
+// for such an operation agrees.
 const UNKNOWN: u8 = 252;
 
 // An operation's number, and as many arguments as it has.
@@ -16,7 +16,9 @@ pub(crate) struct Question<'a> {
 }
 
 // How many arguments the operation has.
-pub(crate) fn arguments(operation: u64) -> usize {
+pub(crate) fn arguments(operation: u64) -> usize
+    ensures { result ≤ 5 }
+{
     match operation {
         0x13 | 0x23 => 0,
         0x10

@@ -86,6 +86,7 @@ fn put_file(out: &mut Output, bytes: &[u8]) -> Result<(), Refusal>
     ensures { OnErr result (out.new.items ≡ []) }
 {
     let header = read_header(bytes)?;
+    // The words of the file are the first of these, which lie in memory of their own: nothing is asked of a heap.
     let mut words = [0; MOST_WORDS];
     let count = read_words(bytes, &mut words) as usize;
     let image = &words[..count];

@@ -11,7 +11,8 @@ pub enum PageSize {
 }
 
 impl PageSize {
-    // The size as a power of two; like the size in bytes a constant for each case, and no shift.
+    // The size as a power of two. A table of its own beside that of `bytes`: a shift from one to the other would be no
+    // plainer than three constants.
     pub fn power(self) -> u32
         ensures { result ≡ power_of self }
     {
