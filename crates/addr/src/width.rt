@@ -23,20 +23,16 @@ impl Addresses for Width {
 
     ghost numbered = { λ w. virt-argument (width_of w) };
 
-    fn argument(self, addr: u64) -> Result<u64, Refusal> {
-        if self.is_canonical(addr) {
-            Ok(addr)
-        } else {
-            Err(Refusal::NotCanonical)
-        }
+    fn holds(self, addr: u64) -> bool {
+        self.is_canonical(addr)
     }
 
-    fn outcome(self, addr: u64) -> Result<u64, Refusal> {
-        if self.is_canonical(addr) {
-            Ok(addr)
-        } else {
-            Err(Refusal::ResultNotCanonical)
-        }
+    fn argument_refusal(self) -> Refusal {
+        Refusal::NotCanonical
+    }
+
+    fn result_refusal(self) -> Refusal {
+        Refusal::ResultNotCanonical
     }
 }
 

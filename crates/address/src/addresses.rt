@@ -1,6 +1,7 @@
 // A space of addresses: the virtual ones of a width, or the physical ones.
 ghost use Rattle.std.specs.Prelude.{◌≡◌, ◌≢◌};
-ghost use Rattle.answer.specs.Answers.{u64_of, bool_of};
+ghost use Rattle.answer.specs.Outcome.{gives, unless};
+ghost use Rattle.answer.specs.Answers.{u64_of, bool_of, number_of};
 ghost use Rattle.laws.specs.Address as laws;
 ghost use Rattle.laws.specs.Address.{address, resulting, is_null, is_aligned, plus, minus, distance};
 
@@ -11,17 +12,44 @@ pub trait Addresses: Copy {
     // Which numbers are addresses, and the refusals.
     ghost space: { Self → laws.Addresses };
 
-    // The number of an address handed in; refused if it is none. Two methods and no test beside two
-    // refusals: each hands the number on, so that `?` does the rest.
-    fn argument(self, addr: u64) -> Result<u64, Refusal>
-        ensures { u64_of result ≡ address (space self) addr };
+    // Whether the number is an address.
+    fn holds(self, addr: u64) -> bool
+        ensures { result ≡ (space self).holds addr };
 
-    // A number that a call comes to; refused if it is no address.
-    fn outcome(self, addr: u64) -> Result<u64, Refusal>
-        ensures { u64_of result ≡ resulting (space self) addr };
+    // What refuses an argument that is no address, and what a result that is none.
+    fn argument_refusal(self) -> Refusal
+        ensures { number_of result ≡ (space self).argument };
+
+    fn result_refusal(self) -> Refusal
+        ensures { number_of result ≡ (space self).result };
 
     // A law: what refuses an argument is no 0, which stands for no refusal.
     ghost numbered: { (s : Self) → (space s).argument ≢ 0 };
+
+    // The number, where it is an address.
+    final fn tested(self, addr: u64, refusal: Refusal) -> Result<u64, Refusal>
+        ensures { u64_of result ≡ unless (number_of refusal) ((space self).holds addr) (gives addr) }
+    {
+        if self.holds(addr) {
+            Ok(addr)
+        } else {
+            Err(refusal)
+        }
+    }
+
+    // The number of an address handed in; refused if it is none.
+    final fn argument(self, addr: u64) -> Result<u64, Refusal>
+        ensures { u64_of result ≡ address (space self) addr }
+    {
+        self.tested(addr, self.argument_refusal())
+    }
+
+    // A number that a call comes to; refused if it is no address.
+    final fn outcome(self, addr: u64) -> Result<u64, Refusal>
+        ensures { u64_of result ≡ resulting (space self) addr }
+    {
+        self.tested(addr, self.result_refusal())
+    }
 
     // Whether the address is 0.
     final fn is_null(self, addr: u64) -> Result<bool, Refusal>

@@ -24,20 +24,16 @@ impl Addresses for Physical {
 
     ghost numbered = { λ _. phys-argument 52 };
 
-    fn argument(self, addr: u64) -> Result<u64, Refusal> {
-        if addr < PHYS_SIZE {
-            Ok(addr)
-        } else {
-            Err(Refusal::NotPhysical)
-        }
+    fn holds(self, addr: u64) -> bool {
+        addr < PHYS_SIZE
     }
 
-    fn outcome(self, number: u64) -> Result<u64, Refusal> {
-        if number < PHYS_SIZE {
-            Ok(number)
-        } else {
-            Err(Refusal::ResultNotPhysical)
-        }
+    fn argument_refusal(self) -> Refusal {
+        Refusal::NotPhysical
+    }
+
+    fn result_refusal(self) -> Refusal {
+        Refusal::ResultNotPhysical
     }
 }
 
