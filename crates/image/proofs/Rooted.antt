@@ -1,19 +1,45 @@
--- The root of a search in an image, where it is not refused.
+-- The root of a search in an image, and what refuses it.
 use Prim.Native.Nat.{ℕ}
-use mathlib.Core.Path.{◌≡◌}
+use mathlib.Core.Path.{◌≡◌, sym}
 use mathlib.Core.List.{List}
+use mathlib.Core.Option.{some}
 use native.Mathlib.Omega.{arith}
-use Rattle.std.specs.Prelude.{Ok}
-use Rattle.paging.specs.Memory.{Inside}
-use Rattle.paging.specs.Search.{pages_from, image_pages}
+use lib.ListN.{length}
+use Rattle.std.specs.Prelude.{Ok, Err}
+use Rattle.answer.specs.Answers.{number_of}
+use Rattle.answer.specs.declared.refusal.Refusal.{Refusal}
+use Rattle.answer.proofs.Refused.{not_zero}
+use Rattle.laws.specs.Address.{virt}
+use Rattle.laws.specs.Item.{item_refusal}
+use Rattle.laws.proofs.Item.{first-refused}
+use Rattle.paging.specs.Memory.{Inside, place_from, reaching}
+use Rattle.paging.specs.Search.{pages_from, image_pages, search_refusal}
 use Rattle.paging.specs.Translate.{root_table}
 use Rattle.paging.proofs.Places.{place_inside}
 use Rattle.paging.proofs.OneSegment.{pages-placed}
+use Rattle.walk.specs.Root.{ImageAt}
+use Rattle.walk.proofs.Refused.{image-told}
 use Rattle.image.specs.Root.{Rooted, whole}
 
-module _ (image : List ℕ) (base root page : ℕ) {place : ℕ} (told : Rooted image base root page (Ok place)) where
-  pub root-inside : Inside (whole image base) image place
-  root-inside = (omega (arith, place_inside (whole image base) 0 root place told.1), omega arith)
+module _ (image : List ℕ) (base root page : ℕ) where
+  -- what refuses the image refuses the search
+  pub root_refused : (r : Refusal) → ImageAt (reaching (length image) (whole image base)) base root (Err r) → number_of r ≡ search_refusal 48 image base root page
+  unfolding search_refusal
+  root_refused r h = rw (image-told image base root (Err r) h) (sym (first-refused (number_of r) _ (not_zero r)))
 
-  pub root-pages : pages_from 0 (whole image base) image 4 place ≡ image_pages 4 image base (root_table image base root)
-  root-pages = pages-placed image base root 4 place told.1
+  -- otherwise what refuses the page does
+  module _ {place : ℕ} (h : ImageAt (reaching (length image) (whole image base)) base root (Ok place)) where
+    pub page_refused : search_refusal 48 image base root page ≡ item_refusal (virt 48) page 0x1000
+    unfolding search_refusal
+    page_refused = rw (image-told image base root (Ok place) h).0
+
+    pub root_placed : place_from 0 (whole image base) root ≡ some place
+    root_placed = (image-told image base root (Ok place) h).1
+
+  -- where nothing does
+  module _ {place : ℕ} (told : Rooted image base root page (Ok place)) where
+    pub root-inside : Inside (whole image base) image place
+    root-inside = (omega (arith, place_inside (whole image base) 0 root place told.1), omega arith)
+
+    pub root-pages : pages_from 0 (whole image base) image 4 place ≡ image_pages 4 image base (root_table image base root)
+    root-pages = pages-placed image base root 4 place told.1

@@ -6,9 +6,10 @@ ghost use Rattle.image.specs.Root.{Rooted, whole};
 use addr::{VirtAddr, Width};
 use answer::Refusal;
 use phys::PhysAddr;
-use walk::{Segment, image_place, search_place};
+use walk::{Segment, check_4kib, image_place};
 
 // The place of the root: base 2, 3; root 2, 3; 14; then 1 and 3 of the page.
+#[tactic(auto, using(crate::proofs::Rooted::root_refused, crate::proofs::Rooted::page_refused, crate::proofs::Rooted::root_placed))]
 pub(crate) fn search_root(
     image: &[u64],
     segments: &[Segment],
@@ -19,6 +20,7 @@ pub(crate) fn search_root(
     requires { segments_of segments.now ≡ whole image.now base.0 }
     ensures { Rooted image.now base.0 root.0 page.0 result }
 {
-    let place = image_place(image.len() as u64, segments, base.0, root.0);
-    search_place(place, Width::Bits48, page.0)
+    let place = image_place(image.len() as u64, segments, base.0, root.0)?;
+    check_4kib(Width::Bits48, page.0)?;
+    Ok(place)
 }

@@ -13,6 +13,6 @@ pub use entry::{NO_MASK, frame_in, is_present};
 pub use look::{Look, look_word};
 pub use memory::{Segment, TABLE_WORDS, Tables, table_place};
 pub use numbers::{levels, page_count, page_number};
-pub use refusal::{image_place, root_place, search_place};
+pub use refusal::{check_4kib, image_place, root_place};
 pub use rights::{ALL_RIGHTS, Rights, allows};
 pub use span::within_span;
