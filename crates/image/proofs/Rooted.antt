@@ -1,5 +1,5 @@
 -- The root of a search in an image, and what refuses it.
-use Prim.Native.Nat.{ℕ}
+use Prim.Native.Nat.{ℕ, ◌+◌, ◌≤◌}
 use mathlib.Core.Path.{◌≡◌, sym}
 use mathlib.Core.List.{List}
 use mathlib.Core.Option.{some}
@@ -12,7 +12,7 @@ use Rattle.answer.proofs.Refused.{not_zero}
 use Rattle.laws.specs.Address.{virt}
 use Rattle.laws.specs.Item.{item_refusal}
 use Rattle.laws.proofs.Item.{first-refused}
-use Rattle.paging.specs.Memory.{Inside, place_from, reaching}
+use Rattle.paging.specs.Memory.{Segment, place_from, reaching}
 use Rattle.paging.specs.Search.{pages_from, image_pages, search_refusal}
 use Rattle.paging.specs.Translate.{root_table}
 use Rattle.paging.proofs.Places.{place_inside}
@@ -36,10 +36,10 @@ module _ (image : List ℕ) (base root page : ℕ) where
     pub root_placed : place_from 0 (whole image base) root ≡ some place
     root_placed = (image-told image base root (Ok place) h).1
 
-  -- where nothing does
+  -- where nothing does, with the image as one segment
   module _ {place : ℕ} (told : Rooted image base root page (Ok place)) where
-    pub root-inside : Inside (whole image base) image place
-    root-inside = (omega (arith, place_inside (whole image base) 0 root place told.1), omega arith)
+    pub root_inside : place + 512 ≤ length image
+    root_inside = omega (arith, place_inside (whole image base) 0 root place told.1)
 
-    pub root-pages : pages_from 0 (whole image base) image 4 place ≡ image_pages 4 image base (root_table image base root)
-    root-pages = pages-placed image base root 4 place told.1
+    pub root_pages : (one : List Segment) → one ≡ whole image base → pages_from 0 one image 4 place ≡ image_pages 4 image base (root_table image base root)
+    root_pages one is = rw is (pages-placed image base root 4 place told.1)

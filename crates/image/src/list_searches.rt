@@ -87,6 +87,7 @@ fn list_from(
 // The answers of the searches from a 4 KiB page on, each from the next page that the one before it left, as many as have room in out, five words each. Beyond them
 // out is left as it was, and so is all of it on a refusal. In empty_tables the searches remember which tables hold nothing, a byte for each table and a bit for each level:
 // what stands there before does not matter, and where there is no byte nothing is remembered. Both are lent as words and bytes: C lends them so, and a kernel has no heap here.
+#[tactic(auto, using(answer::proofs::Refused::refused_number, crate::proofs::Rooted::root_inside), unfolding(paging::specs::List::listing))]
 pub fn list(
     image: &[u64],
     base: PhysAddr,
@@ -97,10 +98,7 @@ pub fn list(
 ) -> Result<Listed, Refusal>
     ensures { (listing_of result out.new ≡ listing 48 4 image.now base.0 root.0 page.0 out.old) × Remembered 48 image.now base.0 root.0 page.0 empty_tables.old empty_tables.new }
 {
-    let segments = [Segment {
-        base: base.0,
-        words: image.len() as u64,
-    }];
+    let segments = [Segment::whole(image, base.0)];
     let width = Width::Bits48;
     let at = search_root(image, &segments, base, root, page)?;
     forget(empty_tables);

@@ -114,7 +114,7 @@ pub(crate) fn reported(width: Width, found: Found) -> SearchAnswer
 }
 
 // The first run or stop from a 4 KiB page on.
-#[tactic(auto, using(answer::proofs::Refused::refused_number), unfolding(paging::specs::Search::searching))]
+#[tactic(auto, using(answer::proofs::Refused::refused_number, crate::proofs::Rooted::root_inside, crate::proofs::Rooted::root_pages), unfolding(paging::specs::Search::searching))]
 pub fn search(
     image: &[u64],
     base: PhysAddr,
@@ -123,10 +123,7 @@ pub fn search(
 ) -> Result<SearchAnswer, Refusal>
     ensures { report_of result ≡ searching 48 4 image.now base.0 root.0 page.0 }
 {
-    let segments = [Segment {
-        base: base.0,
-        words: image.len() as u64,
-    }];
+    let segments = [Segment::whole(image, base.0)];
     let width = Width::Bits48;
     let at = search_root(image, &segments, base, root, page)?;
     let mut empty_tables = [0u8; 0];

@@ -90,10 +90,7 @@ pub fn translate(
 ) -> Result<TranslateAnswer, Refusal>
     ensures { translation_of result ≡ translation 48 4 image.now base.0 root.0 addr.0 }
 {
-    let segments = [Segment {
-        base: base.0,
-        words: image.len() as u64,
-    }];
+    let segments = [Segment::whole(image, base.0)];
     let at = image_place(image.len() as u64, &segments, base.0, root.0)?;
     let tables = Tables {
         words: image,

@@ -15,6 +15,16 @@ pub struct Segment {
 }
 
 impl Segment {
+    // All words of an image, the first of which has the physical address base.
+    pub fn whole(image: &[u64], base: u64) -> Segment
+        ensures { segment_of result ≡ record { base = base; words = length image.now } }
+    {
+        Segment {
+            base,
+            words: image.len() as u64,
+        }
+    }
+
     // Whether the table at a physical address is wholly in it.
     fn holds(self, table: u64) -> bool
         ensures { result ≡ inside_of (segment_of self) table }
