@@ -13,7 +13,7 @@ pub enum StopReason {
     Outside,
 }
 
-// What is lent from table to table.
+// What is lent from table to table. A level is a number here too, for the reason that `Found` gives.
 #[derive(Clone, Copy, Debug, PartialEq, Eq)]
 pub enum Progress {
     // Absent pages alone.

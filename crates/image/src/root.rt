@@ -1,4 +1,5 @@
 // The root of a search over one image.
+// Words and segments come one by one, for the reason that tables.rt gives.
 ghost use Rattle.std.specs.Prelude.{◌≡◌};
 ghost use Rattle.walk.specs.Segments.{segments_of};
 ghost use Rattle.image.specs.Root.{Rooted, whole};

@@ -12,7 +12,8 @@ pub struct Rights {
     pub no_execute: bool,
 }
 
-// The rights above the root: all. During a walk rights travel as one word, the bits that all words have: a register, and one `&` for an entry.
+// The rights above the root: all. A walk has its rights as one word, the bits that all words have: one `&` for an entry, where three truth values would take three and be no
+// plainer.
 pub const ALL_RIGHTS: u64 = u64::MAX;
 
 // A word with bit 63 turned over, so that each of its rights is a bit that every level must have.
