@@ -1,6 +1,6 @@
 -- The root of a search in an image, and what refuses it.
 use Prim.Native.Nat.{ℕ, ◌+◌, ◌≤◌}
-use mathlib.Core.Path.{◌≡◌, sym}
+use mathlib.Core.Path.{◌≡◌, refl, sym}
 use mathlib.Core.List.{List}
 use mathlib.Core.Option.{some}
 use native.Mathlib.Omega.{arith}
@@ -8,24 +8,21 @@ use lib.ListN.{length}
 use Rattle.std.specs.Prelude.{Ok, Err}
 use Rattle.answer.specs.Answers.{number_of}
 use Rattle.answer.specs.declared.refusal.Refusal.{Refusal}
-use Rattle.answer.proofs.Refused.{not_zero}
 use Rattle.laws.specs.Address.{virt}
 use Rattle.laws.specs.Item.{item_refusal}
-use Rattle.laws.proofs.Item.{first-refused}
 use Rattle.paging.specs.Memory.{Segment, place_from, reaching}
 use Rattle.paging.specs.Search.{pages_from, image_pages, search_refusal}
 use Rattle.paging.specs.Translate.{root_table}
 use Rattle.paging.proofs.Places.{place_inside}
 use Rattle.paging.proofs.OneSegment.{pages-placed}
 use Rattle.walk.specs.Root.{ImageAt}
-use Rattle.walk.proofs.Refused.{image-told}
+use Rattle.walk.proofs.Refused.{image-told, search-told}
 use Rattle.image.specs.Root.{Rooted, whole}
 
 module _ (image : List ℕ) (base root page : ℕ) where
   -- what refuses the image refuses the search
   pub root_refused : (r : Refusal) → ImageAt (reaching (length image) (whole image base)) base root (Err r) → number_of r ≡ search_refusal 48 image base root page
-  unfolding search_refusal
-  root_refused r h = rw (image-told image base root (Err r) h) (sym (first-refused (number_of r) _ (not_zero r)))
+  root_refused r h = sym (search-told image base root 48 page (Err r) (Err r) h refl)
 
   -- otherwise what refuses the page does
   module _ {place : ℕ} (h : ImageAt (reaching (length image) (whole image base)) base root (Ok place)) where

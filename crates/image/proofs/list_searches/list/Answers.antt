@@ -1,7 +1,7 @@
 -- `list` writes the answers of the searches that have room.
 use Prim.Native.Nat.{ℕ}
-use mathlib.Core.Path.{ap, subst, ◌∙◌}
-use mathlib.Core.List.{List, [], ◌∷◌}
+use mathlib.Core.Path.{subst, ◌∙◌}
+use mathlib.Core.List.{[], ◌∷◌}
 use native.Mathlib.Omega.{arith}
 use Rattle.mapping.specs.Walk.{Entry}
 use Rattle.paging.specs.EmptyTables.{TrueIn, TrueOf}
