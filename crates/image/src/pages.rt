@@ -1,5 +1,5 @@
 // The search in a table of level 1.
-ghost use Rattle.std.specs.Prelude.{◌≡◌, ◌+◌, ◌*◌, ◌^◌, ◌<◌, length};
+ghost use Rattle.std.specs.Prelude.{◌+◌, ◌*◌, ◌^◌, ◌<◌};
 ghost use Rattle.found.specs.Progress.{progress_of};
 ghost use Rattle.paging.specs.Pages.{Alike, PassesPages};
 ghost use Rattle.paging.specs.Progress.{GoesOn};
@@ -13,8 +13,8 @@ const READ: u64 = 0x800f_ffff_ffff_f007;
 // Up to where the words from one on are alike: each, by the mask, is the one before it and step more, and has no reserved bit.
 // Not inlined: in `pass_pages` its loop lay across a cache line, and lists in cache took up to 1.7 times the time.
 #[inline(never)]
-fn alike(table: &[u64], from: usize, mask: u64, step: u64, reserved: u64) -> usize
-    requires { (length table.now ≡ 512) × (from < 512) × (mask + 512 * step < 2 ^ 64) }
+fn alike(table: &[u64; TABLE_WORDS], from: usize, mask: u64, step: u64, reserved: u64) -> usize
+    requires { (from < 512) × (mask + 512 * step < 2 ^ 64) }
     ensures { Alike table.now from mask step reserved result }
 {
     let mut due = table[from] & mask;
@@ -31,13 +31,12 @@ fn alike(table: &[u64], from: usize, mask: u64, step: u64, reserved: u64) -> usi
 
 // Goes over the pages from one on up to the end of their table, and answers the page that it comes to.
 pub(crate) fn pass_pages(
-    table: &[u64],
+    table: &[u64; TABLE_WORDS],
     progress: &mut Progress,
     from: u64,
     rights: u64,
     reserved: u64,
 ) -> u64
-    requires whole { length table.now ≡ 512 }
     requires going { GoesOn (progress_of progress.old) from }
     requires bounded { from < 2 ^ 45 }
     ensures { PassesPages reserved table.now rights from (progress_of progress.old) (progress_of progress.new) result }

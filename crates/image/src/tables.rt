@@ -93,13 +93,12 @@ fn step_at(
     }
 }
 
-// The table at a place, as a part of the lent words.
-fn table_at(words: &[u64], place: usize) -> &[u64]
+// The table at a place, as a part of the lent words. Not by `first_chunk`: its `unwrap` would leave a test in the compiled code.
+fn table_at(words: &[u64], place: usize) -> &[u64; TABLE_WORDS]
     requires { place + 512 ≤ length words.now }
-    ensures part { result.now ≡ table_from words.now place }
-    ensures whole { length result.now ≡ 512 }
+    ensures { result.now ≡ table_from words.now place }
 {
-    &words[place..place + TABLE_WORDS]
+    &words[place..].as_chunks::<TABLE_WORDS>().0[0]
 }
 
 // Goes over the pages of a table of level 1, from one on.

@@ -9,4 +9,4 @@ returns c segments known =
     let a = c.args in
     let w : Lent = record { words = a.words.now; segments = segments; reserved = a.reserved } in
     remembered w 0 a.table a.empty.now c.requires.going known c.requires.inside (lit< tt)
-    (rw c.table_at-part.ensures.part at (c.pass_pages-reached.ensures (memory_of w))) c.is_unfound.ensures c.remember_whole.ensures
+    (rw c.table_at-part.ensures at (c.pass_pages-reached.ensures (memory_of w))) c.is_unfound.ensures c.remember_whole.ensures
