@@ -1,5 +1,4 @@
 pub mod Founds
-pub mod ListWords
 pub mod PagesTurn
 pub mod Under
 pub mod Remembered

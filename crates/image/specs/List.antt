@@ -1,5 +1,5 @@
--- What the code's answers stand for: lists of searches; and how an answer is stored.
-use Rattle.std.specs.Prelude.{ℕ, ◌+◌, List, ◌++◌, ◌≡◌, take, drop, Option, Some, None, Result}
+-- What the code's answers stand for: lists of searches.
+use Rattle.std.specs.Prelude.{ℕ, List, Option, Some, None, Result}
 use Rattle.std.proofs.Math.Option as math
 use Rattle.answer.specs.Outcome.{Outcome}
 use Rattle.answer.specs.Answers.{outcome_of}
@@ -8,9 +8,6 @@ use Rattle.laws.specs.Item.{Item}
 use Rattle.page.specs.Page as page
 use Rattle.page.specs.declared.page.Page.{Page}
 use Rattle.paging.specs.List as list
-use Rattle.paging.specs.Search.{report, report_words, answer_words}
-use Rattle.found.specs.Found.{answer_of}
-use Rattle.found.specs.declared.found.Found.{Found}
 use Rattle.image.specs.declared.list_searches.Listed.{Listed}
 
 -- the next page, if the search is not over
@@ -27,7 +24,3 @@ listed_of = outcome_of written_of
 
 abbrev pub listing_of : Result Listed Refusal → List ℕ → list.Listing
 listing_of r out = record { answer = listed_of r; words = out }
-
--- an answer's words at a place of the lent ones, all else as it was
-abbrev pub Stored : (w i : ℕ) → Found → List ℕ → List ℕ → Type 0
-Stored w i f before after = after ≡ take i before ++ (report_words (report w (answer_of f)) ++ drop (i + answer_words) before)

@@ -1,13 +1,12 @@
 // A list of searches, into lent words.
 // Words, segments and reserved bits come one by one, for the reason that tables.rt gives.
-ghost use Rattle.std.specs.Prelude.{◌≡◌, ◌+◌, ◌≤◌, ◌<◌, length};
+ghost use Rattle.std.specs.Prelude.{◌≡◌, ◌<◌, length};
 ghost use Rattle.answer.specs.Outcome.{gives};
 ghost use Rattle.addr.specs.Widths.{width_of, levels_of};
 ghost use Rattle.mapping.specs.Walk.{span_pages};
 ghost use Rattle.paging.specs.List.{listing, settled, Remembered};
 ghost use Rattle.paging.specs.Search.{answer_words};
-ghost use Rattle.image.specs.Found.{OfAnswer};
-ghost use Rattle.image.specs.List.{listing_of, written_of, Stored};
+ghost use Rattle.image.specs.List.{listing_of, written_of};
 ghost use Rattle.image.specs.Tables.{HasTable, TrueFor, lent, pages_below};
 
 use crate::find::{find, next_page};
@@ -17,7 +16,6 @@ use crate::run_search::{ANSWER_WORDS, reported};
 use addr::{VirtAddr, Width};
 use answer::Refusal;
 use empty_tables::forget;
-use found::Found;
 use page::Page;
 use phys::PhysAddr;
 use walk::{NO_MASK, Segment, page_count, page_number};
@@ -29,17 +27,13 @@ pub struct Listed {
     pub next: Option<Page>,
 }
 
-// Stores an answer's words, one by one: a copy of the slice may be a call, and the library calls nothing.
-fn store(out: &mut [u64], at: usize, width: Width, found: Found)
-    requires { (at + answer_words ≤ length out.old) × OfAnswer (span_pages (levels_of width)) found }
-    ensures { Stored (width_of width) at found out.old out.new }
+// Stores an answer's words over as many lent ones. Not by `copy_from_slice`: the compiled code would test whether the two overlap. A function of its own: what is written
+// through an array out of a part of a slice is not known to a proof.
+fn store(part: &mut [u64], words: [u64; ANSWER_WORDS])
+    requires { length part.old ≡ answer_words }
+    ensures { part.new ≡ words }
 {
-    let words = reported(width, found).words();
-    out[at] = words[0];
-    out[at + 1] = words[1];
-    out[at + 2] = words[2];
-    out[at + 3] = words[3];
-    out[at + 4] = words[4];
+    *part.as_mut_array::<ANSWER_WORDS>().unwrap() = words;
 }
 
 // The answers of the searches from a page on, by its number, in the tables below the root at a place.
@@ -62,6 +56,7 @@ fn list_from(
     let pages = page_count(width);
     let room = out.len() / ANSWER_WORDS;
     let mut at = page;
+    // The answer is a count, so the loop counts. It does not go over `as_chunks_mut`: that contract does not say what the slice ends as.
     for written in 0..room {
         if at == pages {
             return Listed {
@@ -70,7 +65,9 @@ fn list_from(
             };
         }
         let found = find(words, segments, empty, root, width, at, reserved);
-        store(out, written * ANSWER_WORDS, width, found);
+        let answer = reported(width, found).words();
+        let start = written * ANSWER_WORDS;
+        store(&mut out[start..start + ANSWER_WORDS], answer);
         at = next_page(found, pages);
     }
     let next = if at == pages {

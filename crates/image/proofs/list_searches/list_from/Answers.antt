@@ -2,6 +2,8 @@
 use Prim.Native.Nat.{ℕ, ◌+◌, ◌*◌, ◌<◌}
 use mathlib.Core.Path.{◌≡◌}
 use native.Mathlib.Omega.{arith}
+use native.Mathlib.Nat.{add-sub_cancel_left}
+use lib.Seq.{drop-drop}
 use Rattle.mapping.specs.Pages.{Spanned}
 use Rattle.mapping.proofs.Walk.{spanned}
 use Rattle.addr.specs.Widths.{width_of, levels_of}
@@ -32,7 +34,7 @@ loop-written-preserved c =
     record {
       turn =
           rw (c.next_page-at.ensures (levels_of a.width) pages.page c.page_count-pages.ensures, c.find-found.ensures.found, used)
-          (next-turn turn (whole (lent a.words.now a.segments.now a.reserved) (levels_of a.width) a.root) going c.store.new.out
-          (omega (arith, c.loop-written-test.true, same_length turn)) (rw c.find-found.ensures.found at c.store.ensures));
+          (next-turn turn (whole (lent a.words.now a.segments.now a.reserved) (levels_of a.width) a.root) going _
+          (omega (arith, c.loop-written-test.true, same_length turn)) (rw (c.store.ensures, c.words-answer.ensures, c.reported.ensures, c.find-found.ensures.found, add-sub_cancel_left, drop-drop)));
       known = c.find-found.ensures.still_known;
     }
