@@ -11,7 +11,7 @@ use walk::{Rights, TABLE_WORDS, allows, frame_in, is_present};
 const READ: u64 = 0x800f_ffff_ffff_f007;
 
 // Up to where the words from one on are alike: each, by the mask, is the one before it and step more, and has no reserved bit.
-// Not inlined: in `pass_pages` its loop lay across a cache line, and lists in cache took up to 1.7 times the time.
+// Not inlined: in `pass_pages` its loop lay across a cache line, and lists in cache took 1.7 of the Rust's time in place of 1.24.
 #[inline(never)]
 fn alike(table: &[u64; TABLE_WORDS], from: usize, mask: u64, step: u64, reserved: u64) -> usize
     requires { (from < 512) × (mask + 512 * step < 2 ^ 64) }
