@@ -1,25 +1,13 @@
--- The words of answers, stored and joined.
-use Prim.Native.Nat.{ℕ, suc, ◌+◌, ◌*◌, ◌≤◌}
+-- The words of answers, joined.
+use Prim.Native.Nat.{ℕ, ◌*◌}
 use mathlib.Core.Path.{◌≡◌, refl, sym, ap, ◌∙◌}
 use mathlib.Core.List.{List, [], ◌∷◌, ◌++◌, append_assoc}
 use native.Mathlib.Omega.{arith}
-use lib.ListN.{length, length-append, take, drop, set}
-use lib.Seq.{sets-eq}
+use lib.ListN.{length, length-append}
 use Rattle.mapping.specs.Pages.{reserved, outside}
 use Rattle.paging.specs.Search.{Report, report_words}
 use Rattle.paging.specs.Search as reports
 use Rattle.paging.specs.List.{all_words}
-
--- five stores, one after the other
-pub five-stores : (out : List ℕ) (i a b c d e : ℕ) → i + 5 ≤ length out
-    → set (set (set (set (set out i a) (i + 1) b) (i + 2) c) (i + 3) d) (i + 4) e ≡ take i out ++ ((a ∷ b ∷ c ∷ d ∷ e ∷ []) ++ drop (i + 5) out)
-five-stores out i a b c d e h =
-    let one : i + 1 ≡ suc i = omega arith in
-    let two : i + 2 ≡ suc (suc i) = omega arith in
-    let three : i + 3 ≡ suc (suc (suc i)) = omega arith in
-    let four : i + 4 ≡ suc (suc (suc (suc i))) = omega arith in
-    rw (one, two, three, four)
-    (sets-eq (a ∷ b ∷ c ∷ d ∷ e ∷ []) out i h ∙ append_assoc (take i out) (a ∷ b ∷ c ∷ d ∷ e ∷ []) (drop (i + 5) out))
 
 -- five words for each
 words-length : (r : Report) → length (report_words r) ≡ 5
