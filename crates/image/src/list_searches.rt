@@ -5,7 +5,9 @@ ghost use Rattle.answer.specs.Outcome.{gives};
 ghost use Rattle.addr.specs.Widths.{width_of, levels_of};
 ghost use Rattle.mapping.specs.Walk.{span_pages};
 ghost use Rattle.paging.specs.List.{listing, settled, Remembered};
-ghost use Rattle.paging.specs.Search.{answer_words};
+ghost use Rattle.paging.specs.Search.{answer_words, report, report_words};
+ghost use Rattle.found.specs.Found.{answer_of};
+ghost use Rattle.image.specs.Found.{OfAnswer};
 ghost use Rattle.image.specs.List.{listing_of, written_of};
 ghost use Rattle.image.specs.Tables.{HasTable, TrueFor, lent, pages_below};
 
@@ -16,6 +18,7 @@ use crate::run_search::{ANSWER_WORDS, reported};
 use addr::{VirtAddr, Width};
 use answer::Refusal;
 use empty_tables::forget;
+use found::Found;
 use page::Page;
 use phys::PhysAddr;
 use walk::{NO_MASK, Segment, page_count, page_number};
@@ -29,11 +32,11 @@ pub struct Listed {
 
 // Stores an answer's words over as many lent ones. Not by `copy_from_slice`: the compiled code would test whether the two overlap. A function of its own: what is written
 // through an array out of a part of a slice is not known to a proof.
-fn store(part: &mut [u64], words: [u64; ANSWER_WORDS])
-    requires { length part.old ≡ answer_words }
-    ensures { part.new ≡ words }
+fn store(part: &mut [u64], width: Width, found: Found)
+    requires { (length part.old ≡ answer_words) × OfAnswer (span_pages (levels_of width)) found }
+    ensures { part.new ≡ report_words (report (width_of width) (answer_of found)) }
 {
-    *part.as_mut_array::<ANSWER_WORDS>().unwrap() = words;
+    *part.as_mut_array::<ANSWER_WORDS>().unwrap() = reported(width, found).words();
 }
 
 // The answers of the searches from a page on, by its number, in the tables below the root at a place.
@@ -65,9 +68,8 @@ fn list_from(
             };
         }
         let found = find(words, segments, empty, root, width, at, reserved);
-        let answer = reported(width, found).words();
         let start = written * ANSWER_WORDS;
-        store(&mut out[start..start + ANSWER_WORDS], answer);
+        store(&mut out[start..start + ANSWER_WORDS], width, found);
         at = next_page(found, pages);
     }
     let next = if at == pages {

@@ -35,6 +35,6 @@ loop-written-preserved c =
       turn =
           rw (c.next_page-at.ensures (levels_of a.width) pages.page c.page_count-pages.ensures, c.find-found.ensures.found, used)
           (next-turn turn (whole (lent a.words.now a.segments.now a.reserved) (levels_of a.width) a.root) going _
-          (omega (arith, c.loop-written-test.true, same_length turn)) (rw (c.store.ensures, c.words-answer.ensures, c.reported.ensures, c.find-found.ensures.found, add-sub_cancel_left, drop-drop)));
+          (omega (arith, c.loop-written-test.true, same_length turn)) (rw (c.store.ensures, c.find-found.ensures.found, add-sub_cancel_left, drop-drop)));
       known = c.find-found.ensures.still_known;
     }
