@@ -43,7 +43,7 @@ pub fn choose<T: ItemAt>(start: u64, size: u64) -> Option<T>
     Some(T::at(choose_size(size)?, start))
 }
 
-// The range from one to another; the inclusive one is another type.
+// The range from one to another; the inclusive one is another type, and a trait over both would be no plainer.
 pub fn choose_range<T: ItemAt>(
     start: u64,
     start_size: u64,

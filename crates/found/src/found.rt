@@ -6,7 +6,7 @@ ghost use Rattle.found.specs.Progress.{progress_of};
 use crate::progress::{Progress, StopReason};
 use walk::Rights;
 
-// An answer by the numbers of its pages and frames. A level is a number and no `PageTableLevel`: the next board walks five levels, and a number has them without another case.
+// An answer by the numbers of its pages and frames. A level is a number and no `PageTableLevel`, which has four: a walk at 57 bits has five.
 #[derive(Clone, Copy, Debug, PartialEq, Eq)]
 pub enum Found {
     // No page from there on is mapped or broken.

@@ -1,5 +1,5 @@
 // The search for mapped runs by the tables in a memory image, and lists of searches. An image is lent words, never written; base is the physical address of its first word.
-// Both and the root come one by one, as C lends them: a struct would ask users of a call for one.
+// Both and the root come one by one, as C lends them: a struct would have to be made for each call.
 #![tactic(auto)]
 
 mod find;

@@ -30,8 +30,8 @@ pub struct Listed {
     pub next: Option<Page>,
 }
 
-// Stores an answer's words over as many lent ones. Not by `copy_from_slice`: the compiled code would test whether the two overlap. A function of its own: what is written
-// through an array out of a part of a slice is not known to a proof.
+// Stores an answer's words over as many lent ones. Not by `copy_from_slice`: the compiled code would test whether the two overlap. In `list_from` itself
+// the proof did not close: there the array is a part of a part of `out`.
 fn store(part: &mut [u64], width: Width, found: Found)
     requires { (length part.old ≡ answer_words) × OfAnswer (span_pages (levels_of width)) found }
     ensures { part.new ≡ report_words (report (width_of width) (answer_of found)) }

@@ -31,7 +31,7 @@ pub const RESERVED: u64 = 2;
 pub const OUTSIDE: u64 = 3;
 
 // It differs from `Found` in the types of page and frame alone. One generic enum for both would be found's, and a type of another crate takes no method, so that `words` could
-// be none: no plainer. A level is a number and no `PageTableLevel`: the next board walks five levels, and a number has them without another case.
+// be none: no plainer. A level is a number and no `PageTableLevel`, which has four: a walk at 57 bits has five.
 #[derive(Clone, Copy, Debug, PartialEq, Eq)]
 pub enum SearchAnswer {
     // No page from there on is mapped or broken.

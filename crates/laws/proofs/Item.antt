@@ -4,8 +4,9 @@ use mathlib.Core.Bool.{Bool, true, false}
 use Prim.Native.Nat.{ℕ, zero, suc, ◌+◌, ◌-◌, ◌*◌, ◌%◌, ◌^◌, ◌≤◌, ◌<◌}
 use native.Mathlib.Omega.{arith}
 use lib.Dec.{eqb}
-use borrow.Author.Tests.{eqb-true, lt-ltb, le-leb}
+use borrow.Author.Tests.{eqb-true, lt-ltb, le-ltb, le-leb, lt-leb}
 use Rattle.answer.specs.Outcome.{Outcome, gives, refuses, unless_refused}
+use Rattle.answer.specs.Refusal.{overflow}
 use Rattle.laws.specs.Address.{Addresses, virt, phys}
 use Rattle.laws.specs.Item.{item, given_item, item_refusal, plus_item, minus_item, given_items, first_refusal, items_refusal}
 
@@ -37,10 +38,22 @@ first-refused (suc k) m h = refl
 pub item-given : {A : Type 0} (s : Addresses) (a z : ℕ) (o : Outcome A) → item_refusal s a z ≡ 0 → o ≡ given_item s a z o
 item-given s a z o r = rw r
 
--- a step from an item that passes, where it is to an address, for pages and frames alike
+-- the ways through each call on items, for pages and frames alike
 module _ (s : Addresses) (a z n : ℕ) (r : item_refusal s a z ≡ 0) where
+  pub plus-overflow : 2 ^ 64 ≤ a + n * z → refuses overflow ≡ plus_item s a z n
+  plus-overflow h = simp (r, le-ltb (a + n * z) (2 ^ 64) h)
+
+  pub plus-outside : a + n * z < 2 ^ 64 → s.holds (a + n * z) ≡ false → refuses s.result ≡ plus_item s a z n
+  plus-outside h f = simp (r, lt-ltb (a + n * z) (2 ^ 64) h, f)
+
   pub plus-gives : a + n * z < 2 ^ 64 → s.holds (a + n * z) ≡ true → gives (item (a + n * z) z) ≡ plus_item s a z n
   plus-gives h t = simp (r, lt-ltb (a + n * z) (2 ^ 64) h, t)
+
+  pub minus-overflow : a < n * z → refuses overflow ≡ minus_item s a z n
+  minus-overflow h = simp (r, lt-leb (n * z) a h)
+
+  pub minus-outside : n * z ≤ a → s.holds (a - n * z) ≡ false → refuses s.result ≡ minus_item s a z n
+  minus-outside h f = simp (r, le-leb (n * z) a h, f)
 
   pub minus-gives : n * z ≤ a → s.holds (a - n * z) ≡ true → gives (item (a - n * z) z) ≡ minus_item s a z n
   minus-gives h t = simp (r, le-leb (n * z) a h, t)

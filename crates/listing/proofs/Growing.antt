@@ -1,10 +1,18 @@
 -- A text with zeros behind it: the text, and what is left of the line's bytes.
-use Rattle.std.specs.Prelude.{◌≡◌, ℕ, List, ◌-◌, length, take, drop, replicate}
-use Rattle.std.proofs.Math.Seq.{take-append_seam, drop-append_seam}
+use Rattle.std.specs.Prelude.{◌≡◌, ℕ, List, ◌+◌, ◌-◌, ◌<◌, length, take, drop, set, replicate}
+use Rattle.std.proofs.Common.{suc, arith}
+use Rattle.std.proofs.Math.Seq.{drop-drop, drop-set-lt, take-append_seam, drop-append_seam}
 use Rattle.listing.specs.Text.{line_bytes, padded}
 
 pub holds : (text : List ℕ) → take (length text) (padded text) ≡ text
 holds text = take-append_seam text (replicate (line_bytes - length text) 0)
 
-pub zeros-left : (text : List ℕ) → drop (length text) (padded text) ≡ replicate (line_bytes - length text) 0
-zeros-left text = drop-append_seam text (replicate (line_bytes - length text) 0)
+pub zeros-behind : (text : List ℕ) → drop (length text) (padded text) ≡ replicate (line_bytes - length text) 0
+zeros-behind text = drop-append_seam text (replicate (line_bytes - length text) 0)
+
+-- a byte stored behind the first `n` leaves zeros behind it
+pub zeros-left : (bytes : List ℕ) (n byte : ℕ) → n < line_bytes → drop n bytes ≡ replicate (line_bytes - n) 0 → drop (n + 1) (set bytes n byte) ≡ replicate (line_bytes - (n + 1)) 0
+zeros-left bytes n byte h zeros =
+    let less : n < n + 1 = omega arith in
+    let e : line_bytes - n ≡ suc (line_bytes - (n + 1)) = omega arith in
+    rw (drop-set-lt (n + 1) bytes n byte, ← drop-drop 1 n bytes, zeros, e)

@@ -16,7 +16,7 @@ use phys::PhysAddr;
 use table::PageSize;
 use walk::{ALL_RIGHTS, NO_MASK, Rights, Segment, Tables, image_place, levels, page_number};
 
-// The number is the level of the entry that decides. It is no `PageTableLevel`: the next board walks five levels, and a number has them without another case.
+// The number is the level of the entry that decides. It is no `PageTableLevel`, which has four: a walk at 57 bits has five.
 #[derive(Clone, Copy, Debug, PartialEq, Eq)]
 pub enum TranslateAnswer {
     Mapped(PhysAddr, PageSize, Rights),
