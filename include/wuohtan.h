@@ -37,7 +37,7 @@ enum {
     WUOHTAN_SIZES_DIFFER = 7,
     WUOHTAN_RESULT_NOT_PHYSICAL = 8,
     WUOHTAN_INDEX_TOO_LARGE = 9,    /* an index of 512 or more, an offset of 4096 or more */
-    WUOHTAN_DRAW_MEETS_GAP = 10,    /* a draw of pages that would lead into the gap or over it */
+    WUOHTAN_DRAW_MEETS_GAP = 10,    /* a draw of pages from a low start to a high end, into the gap or over it */
     WUOHTAN_PFN_TOO_LARGE = 12,     /* a frame number whose frame would start at 2^52 or more */
     WUOHTAN_ROOT_OUTSIDE = 14,      /* a root table that is not wholly in the image */
     WUOHTAN_NO_SUCH_CHOICE = 253,   /* a level that is not 1 to 4, a size that is no page size */

@@ -14,6 +14,11 @@ pub widths : (x : Width) → IsWidth (width_of x)
 widths Bits48 = record { above = lit< tt; below = lit< tt }
 widths Bits57 = record { above = lit< tt; below = lit< tt }
 
+-- a page of any size is much less than a half
+pub wide : (x : Width) → 47 < width_of x
+wide Bits48 = lit< tt
+wide Bits57 = lit< tt
+
 -- nine bits for each level above the offset's twelve
 pub nine-each : (x : Width) → width_of x ≡ 12 + 9 * levels_of x
 nine-each Bits48 = refl

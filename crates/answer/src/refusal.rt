@@ -24,7 +24,7 @@ pub enum Refusal {
     ResultNotPhysical = 8,
     // An index of 512 or more, or an offset of 4,096 or more.
     IndexTooLarge = 9,
-    // A draw of pages that would lead into the gap or over it.
+    // A draw of pages from a low start to a high end, into the gap or over it.
     DrawMeetsGap = 10,
     // A frame number whose frame would start at 2^52 or more.
     PfnTooLarge = 12,

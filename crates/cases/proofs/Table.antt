@@ -8,7 +8,7 @@ use Rattle.laws.specs.Align.{power_of_two, up}
 use Rattle.laws.specs.Width.{sign_extend}
 use Rattle.laws.specs.Steps.{forward, steps}
 use Rattle.laws.specs.Run.{run, len_below, len_through, pages_below, pages_through}
-use Rattle.laws.specs.Draw.{gap_front_below, gap_front_through, gap_back_below, gap_back_through}
+use Rattle.laws.specs.Draw.{gap_front, gap_back, top_of, bottom_of}
 use Rattle.laws.proofs.Align.{one_bit}
 use Rattle.laws.specs.Item.{item_refusal, items_refusal}
 use Rattle.cases.specs.Table.{Table}
@@ -17,7 +17,7 @@ power : (k : ℕ) → power_of_two (2 ^ k) ≡ true
 power k = eq-eqb (ones (2 ^ k)) 1 ((one_bit (2 ^ k)).1 (k, refl))
 
 pub table : Table
-unfolding sign_extend forward steps up run len_below len_through pages_below pages_through gap_front_below gap_front_through gap_back_below gap_back_through item_refusal items_refusal
+unfolding sign_extend forward steps up run len_below len_through pages_below pages_through gap_front gap_back top_of bottom_of item_refusal items_refusal
 table =
     record {
       a = refl;
@@ -43,6 +43,17 @@ table =
       i = refl;
       j-len = refl;
       j-front = refl;
+      first-high-back = refl;
+      last-low-57 = refl;
+      first-high-57 = refl;
+      last-low-2-mib = refl;
+      past-last-low-2-mib = refl;
+      empty-front = refl;
+      empty-back = refl;
+      over-front = refl;
+      over-back = refl;
+      over-front-exclusive = refl;
+      over-back-exclusive = refl;
       k-len = refl;
       k-nth-0 = refl;
       k-nth-1 = refl;

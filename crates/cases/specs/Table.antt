@@ -1,10 +1,10 @@
--- The table of document 01, "Checked by proof", as one statement about the definitions. What the functions answer follows from their contracts, which give
+-- The table of document 01, "Checked by proof", as document 02 amends it, as one statement about the definitions. What the functions answer follows from their contracts, which give
 -- each answer by the same definitions.
 use Rattle.std.specs.Prelude.{ℕ, ◌-◌, ◌^◌, ◌≡◌}
 use Rattle.answer.specs.Outcome.{gives, none, refuses}
 use Rattle.laws.specs.Width.{sign_extend}
 use Rattle.laws.specs.Address.{virt, plus, align_up_virt, forward_from, steps_between, table_index, page_offset}
-use Rattle.table.specs.declared.size.PageSize.TheVariants.{Size4KiB}
+use Rattle.table.specs.declared.size.PageSize.TheVariants.{Size4KiB, Size2MiB}
 use Rattle.laws.specs.Item.{item}
 use Rattle.laws.specs.Range.{count_below, count_through}
 use Rattle.frame.specs.Frame.{pfn_of, from_pfn}
@@ -23,6 +23,10 @@ exclusive a b = record { start = page a; end = page b }
 
 abbrev pub inclusive : ℕ → ℕ → RangeInclusive Page
 inclusive a b = record { start = page a; end = page b }
+
+-- an inclusive range of 2 MiB pages
+abbrev pub large : ℕ → ℕ → RangeInclusive Page
+large a b = record { start = page_at Size2MiB a; end = page_at Size2MiB b }
 
 pub record Table : Type 0 where
   -- A truncate 8000_0000_0000: ffff_8000_0000_0000
@@ -57,10 +61,36 @@ pub record Table : Type 0 where
       ≡ record { answer = gives (item 0xffff_ffff_ffff_f000 0x1000); range = inclusive 0xffff_ffff_ffff_f000 0xffff_ffff_ffff_e000 }
   -- I inclusive, both 0: back gives 0, start is 1000
   pub i : nth_back_inclusive_of 48 (inclusive 0 0) 0 ≡ record { answer = gives (item 0 0x1000); range = inclusive 0x1000 0 }
-  -- J inclusive, both 7fff_ffff_f000: `len` 1, front refusal 10
+  -- J inclusive, both 7fff_ffff_f000: `len` 1, front gives it, end is 7fff_ffff_e000 (document 02, request One; document 01 alone refuses 10)
   pub j-len : count_through (virt 48) 0x7fff_ffff_f000 0x1000 0x7fff_ffff_f000 0x1000 ≡ gives 1
   pub j-front : nth_inclusive_of 48 (inclusive 0x7fff_ffff_f000 0x7fff_ffff_f000) 0
-      ≡ record { answer = refuses 10; range = inclusive 0x7fff_ffff_f000 0x7fff_ffff_f000 }
+      ≡ record { answer = gives (item 0x7fff_ffff_f000 0x1000); range = inclusive 0x7fff_ffff_f000 0x7fff_ffff_e000 }
+  -- request One: inclusive, both ffff_8000_0000_0000: back gives it, start is ffff_8000_0000_1000
+  pub first-high-back : nth_back_inclusive_of 48 (inclusive 0xffff_8000_0000_0000 0xffff_8000_0000_0000) 0
+      ≡ record { answer = gives (item 0xffff_8000_0000_0000 0x1000); range = inclusive 0xffff_8000_0000_1000 0xffff_8000_0000_0000 }
+  -- the same at 57 bits
+  pub last-low-57 : nth_inclusive_of 57 (inclusive 0xff_ffff_ffff_f000 0xff_ffff_ffff_f000) 0
+      ≡ record { answer = gives (item 0xff_ffff_ffff_f000 0x1000); range = inclusive 0xff_ffff_ffff_f000 0xff_ffff_ffff_e000 }
+  pub first-high-57 : nth_back_inclusive_of 57 (inclusive 0xff00_0000_0000_0000 0xff00_0000_0000_0000) 0
+      ≡ record { answer = gives (item 0xff00_0000_0000_0000 0x1000); range = inclusive 0xff00_0000_0000_1000 0xff00_0000_0000_0000 }
+  -- of 2 MiB, from 7fff_ffc0_0000 to 7fff_ffe0_0000: the second gives the last, and there is no tenth; both leave the same
+  pub last-low-2-mib : nth_inclusive_of 48 (large 0x7fff_ffc0_0000 0x7fff_ffe0_0000) 1
+      ≡ record { answer = gives (item 0x7fff_ffe0_0000 0x20_0000); range = large 0x7fff_ffe0_0000 0x7fff_ffc0_0000 }
+  pub past-last-low-2-mib : nth_inclusive_of 48 (large 0x7fff_ffc0_0000 0x7fff_ffe0_0000) 9 ≡ record { answer = none; range = large 0x7fff_ffe0_0000 0x7fff_ffc0_0000 }
+  -- an empty range stays as it is: from ffff_8000_0000_0000 to 7fff_ffff_f000
+  pub empty-front : nth_inclusive_of 48 (inclusive 0xffff_8000_0000_0000 0x7fff_ffff_f000) 0
+      ≡ record { answer = none; range = inclusive 0xffff_8000_0000_0000 0x7fff_ffff_f000 }
+  pub empty-back : nth_back_inclusive_of 48 (inclusive 0xffff_8000_0000_0000 0x7fff_ffff_f000) 0
+      ≡ record { answer = none; range = inclusive 0xffff_8000_0000_0000 0x7fff_ffff_f000 }
+  -- a range from 7fff_ffff_f000 to ffff_8000_0000_0000 stays refused 10 from either end, inclusive and exclusive
+  pub over-front : nth_inclusive_of 48 (inclusive 0x7fff_ffff_f000 0xffff_8000_0000_0000) 0
+      ≡ record { answer = refuses 10; range = inclusive 0x7fff_ffff_f000 0xffff_8000_0000_0000 }
+  pub over-back : nth_back_inclusive_of 48 (inclusive 0x7fff_ffff_f000 0xffff_8000_0000_0000) 0
+      ≡ record { answer = refuses 10; range = inclusive 0x7fff_ffff_f000 0xffff_8000_0000_0000 }
+  pub over-front-exclusive : nth_of 48 (exclusive 0x7fff_ffff_f000 0xffff_8000_0000_0000) 0
+      ≡ record { answer = refuses 10; range = exclusive 0x7fff_ffff_f000 0xffff_8000_0000_0000 }
+  pub over-back-exclusive : nth_back_of 48 (exclusive 0x7fff_ffff_f000 0xffff_8000_0000_0000) 0
+      ≡ record { answer = refuses 10; range = exclusive 0x7fff_ffff_f000 0xffff_8000_0000_0000 }
   -- K exclusive 7fff_ffff_e000 to ffff_8000_0000_1000: `len` f_fff0_0000_0003; nth(0) 7fff_ffff_e000, nth(1) refusal 10; nth_back(0) ffff_8000_0000_0000,
   -- nth_back(1) refusal 10
   pub k-len : count_below (virt 48) 0x7fff_ffff_e000 0x1000 0xffff_8000_0000_1000 0x1000 ≡ gives 0xf_fff0_0000_0003

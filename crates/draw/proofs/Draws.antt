@@ -8,7 +8,7 @@ use Rattle.std.proofs.lemmas.Bool.Decides.{nat_tests}
 use Rattle.laws.specs.Run.{len_below, len_through}
 use Rattle.laws.proofs.Cases.{by_cases}
 use Rattle.laws.proofs.Run.{run_at, back_at, last-below, last-through, back-within, after_last}
-use Rattle.laws.proofs.Next.{next-below-none, next-below-some, next-back-below-none, next-back-below-some, next-through-none, next-through-top, next-through-some, next-back-through-none, next-back-through-zero, next-back-through-some, rest-room}
+use Rattle.laws.proofs.Next.{next-below-none, next-below-some, next-back-below-none, next-back-below-some, next-through-none, next-through-top, next-through-some, next-back-through-none, next-back-through-first, next-back-through-some, rest-room}
 
 pub ruleset items = (nat_tests, run_at, back_at)
 
@@ -36,4 +36,4 @@ pub ruleset next_back_below = (nat_tests, next-back-below-none, next-back-below-
 
 pub ruleset next_through = (nat_tests, next-through-none, next-through-top, next-through-some)
 
-pub ruleset next_back_through = (nat_tests, next-back-through-none, next-back-through-zero, next-back-through-some)
+pub ruleset next_back_through = (nat_tests, next-back-through-none, next-back-through-first, next-back-through-some)

@@ -106,7 +106,7 @@ impl NumberRange {
     // From the back of the inclusive range.
     #[tactic(auto, using(crate::proofs::Draws::through))]
     pub fn back_through(self, n: u64) -> Draw
-        ensures { draw_of result ≡ back_through (through self.start self.end (bytes_of self.size)) self.start self.end (bytes_of self.size) n }
+        ensures { draw_of result ≡ back_through (through self.start self.end (bytes_of self.size)) 0 self.start self.end (bytes_of self.size) n }
     {
         let k = self.len_through();
         let item = item_back(self.start, self.size, k, n);

@@ -93,7 +93,7 @@ impl NumberRange {
     // From the back of the inclusive range.
     #[tactic(auto, using(crate::proofs::Draws::next_back_through))]
     pub fn next_back_through(self) -> Draw
-        ensures { draw_of result ≡ back_through (through self.start self.end (bytes_of self.size)) self.start self.end (bytes_of self.size) 0 }
+        ensures { draw_of result ≡ back_through (through self.start self.end (bytes_of self.size)) 0 self.start self.end (bytes_of self.size) 0 }
     {
         let NumberRange { start, end, size } = self;
         if end < start {

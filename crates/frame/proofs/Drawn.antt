@@ -5,6 +5,7 @@ use mathlib.Core.Bool.{Bool, false}
 use mathlib.Core.List.{reverse}
 use mathlib.Core.Option.{some}
 use native.Mathlib.Omega.{arith}
+use native.Mathlib.Nat.{zero-mod}
 use borrow.Author.Tests.{lt-ltb, eq-eqb}
 use lib.ListN.{get_elem?, drop}
 use Rattle.laws.specs.Run.{len_below, len_through, below, through}
@@ -61,7 +62,7 @@ abbrev on_front_inclusive : ℕ → ℕ → ℕ → ℕ → draw.Draw
 on_front_inclusive z a b n = draw.front_through (through a b z) (top_frame z) a b z n
 
 abbrev on_back_inclusive : ℕ → ℕ → ℕ → ℕ → draw.Draw
-on_back_inclusive z a b n = draw.back_through (through a b z) a b z n
+on_back_inclusive z a b n = draw.back_through (through a b z) 0 a b z n
 
 -- the number that refuses a draw, and the facts of a draw on numbers
 abbrev number : (ℕ → ℕ → ℕ → ℕ → Bool) → (ℕ → ℕ → ℕ → ℕ → draw.Draw) → ℕ → PhysFrame → PhysFrame → ℕ
@@ -69,13 +70,13 @@ number under on n x y = first_refusal (refusal x y) (leaves_memory (under (bytes
 
 abbrev FrameFacts : (PhysFrame → PhysFrame → Type 0) → (ℕ → ℕ → ℕ → ℕ) → (ℕ → ℕ → ℕ → ℕ → Bool) → (ℕ → ℕ → ℕ → ℕ → draw.Draw) → Type 0
 FrameFacts Empty len under on =
-    Facts frames (λ x. top_frame (bytes x)) len (λ x y. refusal x y ≡ 0) Empty (λ n x y. refusal x y ≡ 0) (number under on) (λ n x y. on (bytes x) (start x) (start y) n) on
+    Facts frames len (λ x y. refusal x y ≡ 0) Empty (λ n x y. refusal x y ≡ 0) (number under on) (λ n x y. on (bytes x) (start x) (start y) n) on
 
 top_multiple : (x : PhysFrame) → top_frame (bytes x) % bytes x ≡ 0
 top_multiple x = top-whole (power_of x.size) 52 (omega (arith, bounds x.size))
 
 module _ (Empty : PhysFrame → PhysFrame → Type 0) (len : ℕ → ℕ → ℕ → ℕ) (under : ℕ → ℕ → ℕ → ℕ → Bool) (on : ℕ → ℕ → ℕ → ℕ → draw.Draw)
-    (steps : (z : ℕ) → 0 < z → z ≤ top_frame z → Stepwise (top_frame z) (λ a b. len a b z) (on z))
+    (steps : (z a b : ℕ) → 0 < z → z ≤ top_frame z → a ≤ top_frame z → b ≤ top_frame z → Stepwise (len a b z) (on z) a b)
     (inside : (x y : PhysFrame) (n : ℕ) → refusal x y ≡ 0 → ranges.Inside (under (bytes x) (start x) (start y) n) (on (bytes x) (start x) (start y) n))
     (multiples : (z a b : ℕ) → a % z ≡ 0 → b % z ≡ 0 → top_frame z % z ≡ 0 → Multiples z (on z a b 0))
     (empty-len : (x y : PhysFrame) → Empty x y → len (start x) (start y) (bytes x) ≡ 0) where
@@ -86,9 +87,7 @@ module _ (Empty : PhysFrame → PhysFrame → Type 0) (len : ℕ → ℕ → ℕ
         free = λ n x y h. first-passed (refusal x y) (leaves_memory (under (bytes x) (start x) (start y) n) (on (bytes x) (start x) (start y) n)) h;
         given = λ n x y g. g;
         by-numbers = λ n x y g. refl;
-        steps = λ x y g. let a = ranges.accepted_frames x y g in steps (bytes x) a.some (omega arith);
-        start-within = λ x y g. let a = ranges.accepted_frames x y g in omega arith;
-        end-within = λ x y g. let a = ranges.accepted_frames x y g in omega arith;
+        steps = λ x y g. let a = ranges.accepted_frames x y g in steps (bytes x) (start x) (start y) a.some (omega arith) (omega arith) (omega arith);
         after = λ n x y g h. g;
         before = λ n x y g. let a = ranges.accepted_frames x y g in
             (g, accepted-left x y (under (bytes x) (start x) (start y) 0) (on (bytes x) (start x) (start y) 0) g (inside x y 0 g) (multiples (bytes x) (start x) (start y) a.whole a.last-whole (top_multiple x)));
@@ -114,20 +113,20 @@ over z a b n = false
 
 front-facts : FrameFacts EmptyBelow len_below over on_front
 front-facts =
-    facts EmptyBelow len_below over on_front (λ z p q. front-below-steps z (top_frame z) p q) (λ x y. ranges.front-inside (start x) x.size (start y) y.size) (λ z a b u v t. front-below-multiples (below a b z) a b z 0 u v) none_below
+    facts EmptyBelow len_below over on_front (λ z a b p st ha hb. front-below-steps z a b p) (λ x y. ranges.front-inside (start x) x.size (start y) y.size) (λ z a b u v t. front-below-multiples (below a b z) a b z 0 u v) none_below
 
 back-facts : FrameFacts EmptyBelow len_below (λ z a b n. draw.under_back_below a b z n) on_back
 back-facts =
-    facts EmptyBelow len_below (λ z a b n. draw.under_back_below a b z n) on_back (λ z p q. back-below-steps z (top_frame z) p q) (λ x y. ranges.back_inside (start x) x.size (start y) y.size) (λ z a b u v t. back-below-multiples (below a b z) a b z 0 u v) none_below
+    facts EmptyBelow len_below (λ z a b n. draw.under_back_below a b z n) on_back (λ z a b p st ha hb. back-below-steps z a b p) (λ x y. ranges.back_inside (start x) x.size (start y) y.size) (λ z a b u v t. back-below-multiples (below a b z) a b z 0 u v) none_below
 
 front-inclusive-facts : FrameFacts EmptyThrough len_through (λ z a b n. draw.under_front_through (top_frame z) a b z n) on_front_inclusive
 front-inclusive-facts =
-    facts EmptyThrough len_through (λ z a b n. draw.under_front_through (top_frame z) a b z n) on_front_inclusive (λ z p q. front-through-steps z (top_frame z) p q) (λ x y. ranges.front-inclusive-inside (start x) x.size (start y) y.size)
+    facts EmptyThrough len_through (λ z a b n. draw.under_front_through (top_frame z) a b z n) on_front_inclusive (λ z a b p st ha hb. front-through-steps z a b p (top_frame z) st ha hb) (λ x y. ranges.front-inclusive-inside (start x) x.size (start y) y.size)
     (λ z a b u v t. front-through-multiples (through a b z) a b z 0 u v (top_frame z) t) none-through
 
 back-inclusive-facts : FrameFacts EmptyThrough len_through over on_back_inclusive
 back-inclusive-facts =
-    facts EmptyThrough len_through over on_back_inclusive (λ z p q. back-through-steps z (top_frame z) p q) (λ x y. ranges.back-inclusive-inside (start x) x.size (start y) y.size) (λ z a b u v t. back-through-multiples (through a b z) a b z 0 u v) none-through
+    facts EmptyThrough len_through over on_back_inclusive (λ z a b p st ha hb. back-through-steps z a b p 0 (omega arith) (omega arith)) (λ x y. ranges.back-inclusive-inside (start x) x.size (start y) y.size) (λ z a b u v t. back-through-multiples (through a b z) a b z 0 u v 0 (zero-mod z)) none-through
 
 -- ranges by their ends
 ends : Ends {P = PhysFrame} made (λ r. r.start) (λ r. r.end)
@@ -187,7 +186,7 @@ module _ (r : RangeInclusive PhysFrame) (d : Drawn (RangeInclusive PhysFrame)) w
   back-inclusive-drawn h =
       let q = settled_is (given-inclusive back) 0 r d h in
       let a = ranges.accepted_frames r.start r.end ((given-inclusive back).free 0 r d h) in
-      rw q (refl, back-through-left (frames_inclusive_of r) (start r.start) (start r.end) (bytes r.start) (top_frame (bytes r.start)) 0 a.some (omega arith) (omega arith) (omega arith))
+      rw q (refl, back-through-left (frames_inclusive_of r) (start r.start) (start r.end) (bytes r.start) 0 0 a.some (omega arith))
 
 pub frames-once : EachOnce frames_of next_from
 frames-once = each-once frames_of next_from (record { from_front = front-drawn; from_back = back-drawn })

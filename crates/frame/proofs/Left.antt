@@ -52,4 +52,4 @@ module _ (r : RangeInclusive PhysFrame) (n : ℕ) (e : refusal r.start r.end ≡
   nth-back-inclusive-left =
       let x = accepted_frames r.start r.end e in
       rw (← nth-back-inclusive-settled r n e)
-      (back-through-left (frames_inclusive_of r) (start r.start) (start r.end) (bytes r.start) (top_frame (bytes r.start)) n x.some (omega arith) (omega arith) (omega arith))
+      (back-through-left (frames_inclusive_of r) (start r.start) (start r.end) (bytes r.start) 0 n x.some (omega arith))

@@ -95,7 +95,7 @@ module _ (a : ℕ) (y : PageSize) (b : ℕ) (z : PageSize) where
     front_inclusive = draw.front_through (through a b (bytes_of y)) (top_frame (bytes_of y)) a b (bytes_of y) n
 
     abbrev pub back_inclusive : draw.Draw
-    back_inclusive = draw.back_through (through a b (bytes_of y)) a b (bytes_of y) n
+    back_inclusive = draw.back_through (through a b (bytes_of y)) 0 a b (bytes_of y) n
 
     abbrev pub under_back : Bool
     under_back = draw.under_back_below a b (bytes_of y) n
@@ -126,9 +126,9 @@ module _ (a : ℕ) (y : PageSize) (b : ℕ) (z : PageSize) where
       back-inclusive-inside =
           let k = accepted e in
           let l = through a b (bytes_of y) in
-          let z : a < bytes_of y → a ≡ 0 = λ h. omega (arith, mod-eq_of_lt h) in
-          let s = back-through-start l a b (bytes_of y) n (top_frame (bytes_of y)) (omega arith) (omega arith) (omega arith) z in
-          let t = back-through-end l a b (bytes_of y) n (top_frame (bytes_of y)) (omega arith) (omega arith) (omega arith) in
+          let z : a < 0 + bytes_of y → a ≡ 0 = λ h. let q : a < bytes_of y = omega arith in omega (arith, mod-eq_of_lt q) in
+          let s = back-through-start l a b (bytes_of y) n (top_frame (bytes_of y)) 0 (omega arith) (omega arith) (omega arith) (omega arith) z in
+          let t = back-through-end l a b (bytes_of y) n (top_frame (bytes_of y)) 0 (omega arith) (omega arith) (omega arith) (omega arith) in
           record { start = omega arith; end = omega arith; not-under = refl }
 
       -- what each draw on the numbers comes to

@@ -57,7 +57,7 @@ unfoldable pub nth_through : ℕ → ℕ → ℕ → ℕ → ℕ → GuardedDraw
 nth_through a y b z n = frame_draw a y b z (draw.under_front_through (top_frame y) a b y n) (draw.front_through (through a b y) (top_frame y) a b y n)
 
 unfoldable pub nth_back_through : ℕ → ℕ → ℕ → ℕ → ℕ → GuardedDraw
-nth_back_through a y b z n = frame_draw a y b z false (draw.back_through (through a b y) a b y n)
+nth_back_through a y b z n = frame_draw a y b z false (draw.back_through (through a b y) 0 a b y n)
 
 -- the draws of a range
 abbrev pub nth_of : Range PhysFrame → ℕ → RangeDraw (Range PhysFrame)

@@ -25,9 +25,9 @@ item-after (x ∷ l) m n e = rw e
 taken-after : (k n s : ℕ) → min 1 k * s + min (n + 1) (k - min 1 k) * s ≡ min (suc n + 1) k * s
 taken-after k n s = sym (add-mul (min 1 k) (min (n + 1) (k - min 1 k)) s) ∙ ap (λ (x : ℕ). x * s) (omega arith)
 
-less : (b x y : ℕ) → x ≤ b → ltb (b - x) y ≡ ltb b (x + y)
-less b x y h =
-    by_cases (dec_lt b (x + y)) (λ k. lt-ltb (b - x) y (omega arith) ∙ sym (lt-ltb b (x + y) k)) (λ k. le-ltb (b - x) y (omega arith) ∙ sym (le-ltb b (x + y) (omega arith)))
+less : (b c x y : ℕ) → c + x ≤ b → ltb (b - x) (c + y) ≡ ltb b (c + (x + y))
+less b c x y h =
+    by_cases (dec_lt b (c + (x + y))) (λ k. lt-ltb (b - x) (c + y) (omega arith) ∙ sym (lt-ltb b (c + (x + y)) k)) (λ k. le-ltb (b - x) (c + y) (omega arith) ∙ sym (le-ltb b (c + (x + y)) (omega arith)))
 
 -- an exclusive range: `m` are the items left by the draw of one of `l`
 module _ (l m : List ℕ) (a b s n : ℕ) (p : 0 < s) where
@@ -67,33 +67,36 @@ module _ (l m : List ℕ) (a b s top n : ℕ) (p : 0 < s) (st : s ≤ top) (ha :
           let f : a + min 1 k * s + min (n + 1) (k - min 1 k) * s ≡ a + min (suc n + 1) k * s = omega (arith, taken-after k n s) in
           rw (through-front a b s (min 1 k) p, f, i)
 
-  back-through-after : reverse m ≡ drop 1 (reverse l) → back_through m (back_through l a b s 0).start (back_through l a b s 0).end s n ≡ back_through l a b s (suc n)
-  back-through-after e = go (ltb b (min 1 (len_through a b s) * s)) refl
+-- the same from the back: `bottom` is the lowest item, and the start is no lower
+module _ (l m : List ℕ) (a b s bottom n : ℕ) (p : 0 < s) (hc : bottom ≤ a) where
+  back-through-after : reverse m ≡ drop 1 (reverse l) → back_through m bottom (back_through l bottom a b s 0).start (back_through l bottom a b s 0).end s n ≡ back_through l bottom a b s (suc n)
+  back-through-after e = go (ltb b (bottom + min 1 (len_through a b s) * s)) refl
     where
       i : get_elem? (reverse m) n ≡ get_elem? (reverse l) (suc n)
       i = item-after (reverse l) (reverse m) n e
 
-      go : (t : Bool) → ltb b (min 1 (len_through a b s) * s) ≡ t
-          → back_through m (cond t (a + s) a) (cond t 0 (b - min 1 (len_through a b s) * s)) s n ≡ back_through l a b s (suc n)
+      go : (t : Bool) → ltb b (bottom + min 1 (len_through a b s) * s) ≡ t
+          → back_through m bottom (cond t (a + s) a) (cond t bottom (b - min 1 (len_through a b s) * s)) s n ≡ back_through l bottom a b s (suc n)
       go true h =
           let k = len_through a b s in
-          let one : k ≤ 1 = all_back l a b s top 0 p st ha hb (ltb-true _ _ h) in
+          let one : k ≤ 1 = all_back l a b s bottom 0 p hc (ltb-true _ _ h) in
           let j : min (suc n + 1) k ≡ min 1 k = omega arith in
           let z : min (n + 1) 0 ≡ 0 = omega arith in
-          rw (through-none (a + s) 0 s (omega arith), z, zero-mul s, j, h, i)
+          rw (through-none (a + s) bottom s (omega arith), z, zero-mul s, add-zero, le-ltb bottom bottom (omega arith), sub-zero, j, h, i)
       go false h =
           let k = len_through a b s in
           let x = min 1 k * s in
           let y = min (n + 1) (k - min 1 k) * s in
           let f : x + y ≡ min (suc n + 1) k * s = taken-after k n s in
           let g : b - x - y ≡ b - (x + y) = omega arith in
-          rw (through-back a b s (min 1 k) p (ltb-false _ _ h), ← f, i, g, less b x y (ltb-false _ _ h))
+          let q : bottom + x ≤ b = ltb-false _ _ h in
+          rw (through-back a b s (min 1 k) p (omega arith), ← f, i, g, less b bottom x y q)
 
--- a draw on numbers for starts and ends that are at most `top`: after one with n = 0, past the last item, and where there is none
-pub record Stepwise (top : ℕ) (len : ℕ → ℕ → ℕ) (draw : ℕ → ℕ → ℕ → Draw) : Type 0 where
-  pub after : (a b n : ℕ) → a ≤ top → b ≤ top → draw (draw a b 0).start (draw a b 0).end n ≡ draw a b (suc n)
-  pub past : (a b n m : ℕ) → len a b ≡ suc m → suc m ≤ n → draw a b n ≡ record { item = none; start = (draw a b m).start; end = (draw a b m).end }
-  pub empty : (a b n : ℕ) → a ≤ top → len a b ≡ 0 → draw a b n ≡ record { item = none; start = a; end = b }
+-- a draw on numbers, from the range of `a` to `b`, which has `len` items: after one with n = 0, past the last item, and where there is none
+pub record Stepwise (len : ℕ) (draw : ℕ → ℕ → ℕ → Draw) (a b : ℕ) : Type 0 where
+  pub after : (n : ℕ) → draw (draw a b 0).start (draw a b 0).end n ≡ draw a b (suc n)
+  pub past : (n m : ℕ) → len ≡ suc m → suc m ≤ n → draw a b n ≡ record { item = none; start = (draw a b m).start; end = (draw a b m).end }
+  pub empty : (n : ℕ) → len ≡ 0 → draw a b n ≡ record { item = none; start = a; end = b }
 
 -- nothing stands past the last item
 at-past : (a s k n : ℕ) → k ≤ n → get_elem? (run a s k) n ≡ none
@@ -108,35 +111,37 @@ none-taken n = omega arith
 all-taken : (n m : ℕ) → suc m ≤ n → min (n + 1) (suc m) ≡ min (m + 1) (suc m)
 all-taken n m h = omega arith
 
-module _ (s top : ℕ) (p : 0 < s) (st : s ≤ top) where
-  pub front-below-steps : Stepwise top (λ a b. len_below a b s) (λ a b n. front_below (below a b s) a b s n)
+module _ (s a b : ℕ) (p : 0 < s) where
+  pub front-below-steps : Stepwise (len_below a b s) (λ a b n. front_below (below a b s) a b s n) a b
   front-below-steps =
       record {
-        after = λ a b n ha hb. front-below-after (below a b s) _ a b s n p (front-below-left (below a b s) a b s 0 p);
-        past = λ a b n m e h. rw (e, all-taken n m h, at-past a s (suc m) n h);
-        empty = λ a b n ha e. rw (e, none-taken n, zero-mul s, add-zero, at-past a s 0 n (omega arith));
+        after = λ n. front-below-after (below a b s) _ a b s n p (front-below-left (below a b s) a b s 0 p);
+        past = λ n m e h. rw (e, all-taken n m h, at-past a s (suc m) n h);
+        empty = λ n e. rw (e, none-taken n, zero-mul s, add-zero, at-past a s 0 n (omega arith));
       }
 
-  pub back-below-steps : Stepwise top (λ a b. len_below a b s) (λ a b n. back_below (below a b s) a b s n)
+  pub back-below-steps : Stepwise (len_below a b s) (λ a b n. back_below (below a b s) a b s n) a b
   back-below-steps =
       record {
-        after = λ a b n ha hb. back-below-after (below a b s) (below a (back_below [] a b s 0).end s) a b s n p (back-below-left (below a b s) a b s 0 p);
-        past = λ a b n m e h. rw (e, all-taken n m h, back-past a s (suc m) n h);
-        empty = λ a b n ha e. rw (e, none-taken n, zero-mul s, sub-zero, back-past a s 0 n (omega arith));
+        after = λ n. back-below-after (below a b s) (below a (back_below [] a b s 0).end s) a b s n p (back-below-left (below a b s) a b s 0 p);
+        past = λ n m e h. rw (e, all-taken n m h, back-past a s (suc m) n h);
+        empty = λ n e. rw (e, none-taken n, zero-mul s, sub-zero, back-past a s 0 n (omega arith));
       }
 
-  pub front-through-steps : Stepwise top (λ a b. len_through a b s) (λ a b n. front_through (through a b s) top a b s n)
-  front-through-steps =
+  -- the ends are at most `top`
+  pub front-through-steps : (top : ℕ) → s ≤ top → a ≤ top → b ≤ top → Stepwise (len_through a b s) (λ a b n. front_through (through a b s) top a b s n) a b
+  front-through-steps top st ha hb =
       record {
-        after = λ a b n ha hb. front-through-after (through a b s) _ a b s top n p st ha hb (front-through-left (through a b s) a b s top 0 p st ha hb);
-        past = λ a b n m e h. rw (e, all-taken n m h, at-past a s (suc m) n h);
-        empty = λ a b n ha e. rw (e, none-taken n, zero-mul s, add-zero, le-ltb top a ha, at-past a s 0 n (omega arith));
+        after = λ n. front-through-after (through a b s) _ a b s top n p st ha hb (front-through-left (through a b s) a b s top 0 p st ha hb);
+        past = λ n m e h. rw (e, all-taken n m h, at-past a s (suc m) n h);
+        empty = λ n e. rw (e, none-taken n, zero-mul s, add-zero, le-ltb top a ha, at-past a s 0 n (omega arith));
       }
 
-  pub back-through-steps : Stepwise top (λ a b. len_through a b s) (λ a b n. back_through (through a b s) a b s n)
-  back-through-steps =
+  -- the ends are no lower than `bottom`
+  pub back-through-steps : (bottom : ℕ) → bottom ≤ a → bottom ≤ b → Stepwise (len_through a b s) (λ a b n. back_through (through a b s) bottom a b s n) a b
+  back-through-steps bottom hc hd =
       record {
-        after = λ a b n ha hb. back-through-after (through a b s) (through (back_through [] a b s 0).start (back_through [] a b s 0).end s) a b s top n p st ha hb (back-through-left (through a b s) a b s top 0 p st ha hb);
-        past = λ a b n m e h. rw (e, all-taken n m h, back-past a s (suc m) n h);
-        empty = λ a b n ha e. rw (e, none-taken n, zero-mul s, sub-zero, le-ltb b 0 (omega arith), back-past a s 0 n (omega arith));
+        after = λ n. back-through-after (through a b s) (through (back_through [] bottom a b s 0).start (back_through [] bottom a b s 0).end s) a b s bottom n p hc (back-through-left (through a b s) a b s bottom 0 p hc);
+        past = λ n m e h. rw (e, all-taken n m h, back-past a s (suc m) n h);
+        empty = λ n e. rw (e, none-taken n, zero-mul s, sub-zero, add-zero, le-ltb b bottom hd, back-past a s 0 n (omega arith));
       }

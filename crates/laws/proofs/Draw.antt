@@ -6,7 +6,7 @@ use mathlib.Core.List.{List, reverse}
 use mathlib.Core.Option.{none, some}
 use native.Mathlib.Omega.{arith}
 use native.Mathlib.Decide.{dec_lt}
-use native.Mathlib.Nat.{min-le_right, mul-le-mul_right, add-mul}
+use native.Mathlib.Nat.{min-le_right, mul-le-mul_right, add-mul, zero-mul}
 use borrow.Author.Tests.{lt-ltb, le-ltb}
 use lib.Dec.{ltb}
 use lib.ListN.{get_elem?}
@@ -43,24 +43,26 @@ module _ (l : List ℕ) (a b s n : ℕ) where
         let next = a + taken (len_through a b s) n * s in
         by_cases (dec_lt top next) (λ h. rw (lt-ltb top next h) (omega arith)) (λ h. rw (le-ltb top next (omega arith)) (omega arith))
 
-    pub back-through-end : (back_through l a b s n).end ≤ top
+  -- `bottom` is the lowest item
+  module _ (top bottom : ℕ) (ha : a ≤ top) (hb : b ≤ top) (hc : bottom + s ≤ top) (hd : bottom ≤ b) where
+    pub back-through-end : (back_through l bottom a b s n).end ≤ top
     back-through-end =
         let back = taken (len_through a b s) n * s in
-        by_cases (dec_lt b back) (λ h. rw (lt-ltb b back h) (omega arith)) (λ h. rw (le-ltb b back (omega arith)) (omega arith))
+        by_cases (dec_lt b (bottom + back)) (λ h. rw (lt-ltb b (bottom + back) h) (omega arith)) (λ h. rw (le-ltb b (bottom + back) (omega arith)) (omega arith))
 
-    -- where the start is raised, it was the first item, below one size
-    pub back-through-start : (a < s → a ≡ 0) → (back_through l a b s n).start ≤ top
-    back-through-start z = by_cases (dec_lt b (taken (len_through a b s) n * s)) raised kept
+    -- where the start is raised, it was the lowest item
+    pub back-through-start : (a < bottom + s → a ≡ bottom) → (back_through l bottom a b s n).start ≤ top
+    back-through-start z = by_cases (dec_lt b (bottom + taken (len_through a b s) n * s)) raised kept
       where
-        raised : b < taken (len_through a b s) n * s → (back_through l a b s n).start ≤ top
+        raised : b < bottom + taken (len_through a b s) n * s → (back_through l bottom a b s n).start ≤ top
         raised h =
             let j = taken (len_through a b s) n in
-            let p : j ≡ 0 → ⊥ = λ e. omega (arith, ap (λ (x : ℕ). x * s) e) in
+            let p : j ≡ 0 → ⊥ = λ e. omega (arith, ap (λ (x : ℕ). x * s) e, zero-mul s) in
             let w = back-within a b s n (len_through a b s) j refl refl p in
-            rw (lt-ltb b (taken (len_through a b s) n * s) h) (omega (arith, z (omega (arith, after_last j s p))))
+            rw (lt-ltb b (bottom + taken (len_through a b s) n * s) h) (omega (arith, z (omega (arith, after_last j s p))))
 
-        kept : (b < taken (len_through a b s) n * s → ⊥) → (back_through l a b s n).start ≤ top
-        kept h = rw (le-ltb b (taken (len_through a b s) n * s) (omega arith)) ha
+        kept : (b < bottom + taken (len_through a b s) n * s → ⊥) → (back_through l bottom a b s n).start ≤ top
+        kept h = rw (le-ltb b (bottom + taken (len_through a b s) n * s) (omega arith)) ha
 
 -- the end that a draw from the back leaves is the item drawn, where both ends are multiples of the size
 pub end-at-item : (l : List ℕ) (a b s n x : ℕ) → 0 < s → a % s ≡ 0 → b % s ≡ 0 → get_elem? (reverse (below a b s)) n ≡ some x → (back_below l a b s n).end ≡ x

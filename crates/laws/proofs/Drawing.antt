@@ -95,4 +95,4 @@ module _ {S : Type 0} (items : S → List ℕ) (draw : Side → S → Option (Dr
       rw (← g, left-added side e.item d') (to_the_end sides e.range d' q (omega (arith, one_fewer side r e f)))
 
   pub each-once : EachOnce items draw
-  each-once = record { in_order = in_order; to_the_end = to_the_end }
+  each-once sides r d h = record { in_order = in_order sides r d h; to_the_end = to_the_end sides r d h }

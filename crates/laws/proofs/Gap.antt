@@ -5,25 +5,25 @@ use mathlib.Core.Bool.{Bool, true, false, ◌&&◌}
 use mathlib.Core.List.{List, [], ◌∷◌, ◌++◌, reverse, reverse-append, append-nil}
 use native.Mathlib.Omega.{arith}
 use native.Mathlib.Decide.{dec_lt}
-use native.Mathlib.Nat.{le-div_iff_mul-le, div-mul-le_self, le_trans, min-eq_left, min-eq_right, max-eq_left, max-eq_right, sub-eq-zero_of_le, zero-div, add-mul, add-div_right, dvd-sub, dvd_of_mod-eq-zero, mod-eq-zero_of_dvd}
+use native.Mathlib.Nat.{le-div_iff_mul-le, div-mul-le_self, le_trans, min-eq_left, min-eq_right, max-eq_left, max-eq_right, sub-eq-zero_of_le, zero-div, add-mul, add-div_right, dvd-sub, dvd_of_mod-eq-zero, mod-eq-zero_of_dvd, sub-zero, zero-mod}
 use borrow.Author.Tests.{lt-ltb, le-leb, lt-leb, leb-false, eq-eqb, ne_eqb}
 use lib.Dec.{ltb, leb, eqb}
 use lib.ListN.{length, get_elem?, length-reverse}
 use Rattle.laws.specs.Width.{IsWidth, half, first_high, sign_extend}
 use Rattle.laws.specs.Run.{run, len_below, len_through, below, through, pages_below, pages_through}
-use Rattle.laws.specs.Draw.{gap_front_below, gap_front_through, gap_back_below, gap_back_through}
+use Rattle.laws.specs.Draw.{gap_front, gap_back}
 use Rattle.laws.proofs.Cases.{by_cases}
 use Rattle.laws.proofs.Run.{run_length, run_at, back_at, through-is}
 use Rattle.laws.proofs.Width.{sizes, canonical-no-gap}
 use Rattle.laws.proofs.Align.{under_top, power-whole, apart-whole}
-use lib.Pow.{pow_pos, pow_mono}
+use lib.Pow.{pow_pos, pow_mono, pow-add}
 
 append_at : (xs ys : List ℕ) (n : ℕ) → n < length xs → get_elem? (xs ++ ys) n ≡ get_elem? xs n
 append_at [] ys n h = absurd (omega arith)
 append_at (x ∷ xs) ys zero h = refl
 append_at (x ∷ xs) ys (suc n) h = append_at xs ys n (omega arith)
 
--- two pages of one size as the ends of a range: each is low, with room for one more, or high, and they are whole sizes apart
+-- two pages of one size as the ends of a range: each is low, with room for one more, or high, and they are whole sizes apart, from each other and from the gap
 pub record PageEnds (w s a b : ℕ) : Type 0 where
   pub low-start : a < half w → a + s ≤ half w
   pub high-start : half w ≤ a → first_high w ≤ a
@@ -31,8 +31,14 @@ pub record PageEnds (w s a b : ℕ) : Type 0 where
   pub high_end : half w ≤ b → first_high w ≤ b
   pub apart : (b - a) / s * s ≡ b - a
   pub above : (b - first_high w) / s * s ≡ b - first_high w
+  pub whole : a / s * s ≡ a
+  pub to-gap : (half w - a) / s * s ≡ half w - a
+  pub from-gap : (a - first_high w) / s * s ≡ a - first_high w
+  pub first : a + s ≤ 2 ^ 64
+  pub last : b + s ≤ 2 ^ 64
   pub some : 0 < s
   pub room : s ≤ half w
+  pub two : s + s ≤ half w
   pub halves : half w ≤ first_high w
 
 module _ (w s a b : ℕ) (p : PageEnds w s a b) where
@@ -76,8 +82,8 @@ module _ (w s a b : ℕ) (p : PageEnds w s a b) where
   not-gap true false z e u v = let o : ◌≡◌ {A = ℕ} 0 1 = cc in absurd (omega arith)
   not-gap false y z e u v = let o : ◌≡◌ {A = ℕ} 0 1 = cc in absurd (omega arith)
 
-  pub front_below : (n : ℕ) → gap_front_below w a b s n ≡ false → get_elem? (pages_below w a b s) n ≡ get_elem? (below a b s) n
-  unfolding gap_front_below pages_below len_below
+  pub front_below : (n : ℕ) → gap_front w a b s n ≡ false → get_elem? (pages_below w a b s) n ≡ get_elem? (below a b s) n
+  unfolding gap_front pages_below len_below
   front_below n g = by_cases (dec_lt a (half w)) low (λ m. rw (pages-high a b (p.high-start (omega arith))))
     where
       crossing : a < half w → half w ≤ b → get_elem? (pages_below w a b s) n ≡ get_elem? (below a b s) n
@@ -89,19 +95,21 @@ module _ (w s a b : ℕ) (p : PageEnds w s a b) where
       low : a < half w → get_elem? (pages_below w a b s) n ≡ get_elem? (below a b s) n
       low h = by_cases (dec_lt b (half w)) (λ l. rw (pages-low a b (omega arith))) (λ l. crossing h (omega arith))
 
-  pub front-through : (n : ℕ) → gap_front_through w a b s n ≡ false → get_elem? (pages_through w a b s) n ≡ get_elem? (through a b s) n
-  unfolding gap_front_through pages_through len_below
+  pub front-through : (n : ℕ) → gap_front w a b s n ≡ false → get_elem? (pages_through w a b s) n ≡ get_elem? (through a b s) n
+  unfolding gap_front pages_through len_below
   front-through n g = by_cases (dec_lt a (half w)) low (λ m. rw (through-high a b (p.high-start (omega arith))))
     where
-      crossing : a < half w → half w - s ≤ b → get_elem? (pages_through w a b s) n ≡ get_elem? (through a b s) n
+      crossing : a < half w → half w ≤ b → get_elem? (pages_through w a b s) n ≡ get_elem? (through a b s) n
       crossing h l =
+          let hb = p.high_end l in
           let e : half w - s + s ≡ half w = omega (arith, p.room) in
-          let f : n + 1 < (half w - a) / s = leb-false ((half w - a) / s) (n + 1) (not-gap (ltb a (half w)) (leb (half w - s) b) (leb ((half w - a) / s) (n + 1)) g (lt-ltb a (half w) h) (le-leb (half w - s) b l)) in
-          rw (min-eq_right l, through-is a (half w - s) s p.some, through-is a b s p.some, e)
+          let f : n + 1 < (half w - a) / s = leb-false ((half w - a) / s) (n + 1) (not-gap (ltb a (half w)) (leb (first_high w) b) (leb ((half w - a) / s) (n + 1)) g (lt-ltb a (half w) h) (le-leb (first_high w) b hb)) in
+          let u : min b (half w - s) ≡ half w - s = min-eq_right (omega arith) in
+          rw (u, through-is a (half w - s) s p.some, through-is a b s p.some, e)
           (front_at (through (max a (first_high w)) b s) ((b + s - a) / s) ((half w - a) / s) n (omega arith) (div-le (half w - a) (b + s - a) (omega arith)))
 
       low : a < half w → get_elem? (pages_through w a b s) n ≡ get_elem? (through a b s) n
-      low h = by_cases (dec_lt b (half w - s)) (λ l. rw (through-low a b (omega arith))) (λ l. crossing h (omega arith))
+      low h = by_cases (dec_lt b (half w)) (λ l. rw (through-low a b (p.low_end l))) (λ l. crossing h (omega arith))
 
   -- and the item at n from the back is among the high pages
   back-high : (xs : List ℕ) (h k j n : ℕ) → n < j → j ≤ k → h + (j - 1 - n) * s ≡ a + (k - 1 - n) * s
@@ -111,8 +119,8 @@ module _ (w s a b : ℕ) (p : PageEnds w s a b) where
       ∙ rw (back_at, back_at, lt-ltb n j l, lt-ltb n k (omega arith), e))
 
   -- the same item, counted from either end
-  pub back_below : (n : ℕ) → gap_back_below w a b s n ≡ false → get_elem? (reverse (pages_below w a b s)) n ≡ get_elem? (reverse (below a b s)) n
-  unfolding gap_back_below pages_below len_below
+  pub back_below : (n : ℕ) → gap_back w a b s n ≡ false → get_elem? (reverse (pages_below w a b s)) n ≡ get_elem? (reverse (below a b s)) n
+  unfolding gap_back pages_below len_below
   back_below n g = by_cases (dec_lt b (half w)) (λ l. rw (pages-low a b (omega arith))) (λ l. high (p.high_end (omega arith)))
     where
       crossing : first_high w ≤ b → a < half w → get_elem? (reverse (pages_below w a b s)) n ≡ get_elem? (reverse (below a b s)) n
@@ -133,34 +141,40 @@ module _ (w s a b : ℕ) (p : PageEnds w s a b) where
       high : first_high w ≤ b → get_elem? (reverse (pages_below w a b s)) n ≡ get_elem? (reverse (below a b s)) n
       high hb = by_cases (dec_lt a (half w)) (crossing hb) (λ m. rw (pages-high a b (p.high-start (omega arith))))
 
-  pub back-through : (n : ℕ) → gap_back_through w a b s n ≡ false → get_elem? (reverse (pages_through w a b s)) n ≡ get_elem? (reverse (through a b s)) n
-  unfolding gap_back_through pages_through len_below
+  pub back-through : (n : ℕ) → gap_back w a b s n ≡ false → get_elem? (reverse (pages_through w a b s)) n ≡ get_elem? (reverse (through a b s)) n
+  unfolding gap_back pages_through len_below
   back-through n g = by_cases (dec_lt b (half w)) (λ l. rw (through-low a b (p.low_end l))) (λ l. high (p.high_end (omega arith)))
     where
-      crossing : first_high w ≤ b → a ≤ first_high w → get_elem? (reverse (pages_through w a b s)) n ≡ get_elem? (reverse (through a b s)) n
+      crossing : first_high w ≤ b → a < half w → get_elem? (reverse (pages_through w a b s)) n ≡ get_elem? (reverse (through a b s)) n
       crossing hb h =
-          let f : n < (b - first_high w) / s = leb-false ((b - first_high w) / s) n (not-gap (leb (first_high w) b) (leb a (first_high w)) (leb ((b - first_high w) / s) n) g (le-leb (first_high w) b hb) (le-leb a (first_high w) h)) in
+          let f : n < (b - first_high w) / s = leb-false ((b - first_high w) / s) n (not-gap (leb (first_high w) b) (ltb a (half w)) (leb ((b - first_high w) / s) n) g (le-leb (first_high w) b hb) (lt-ltb a (half w) h)) in
           let j = (b - first_high w) / s in
           let k = (b - a) / s in
           let c : b + s - first_high w ≡ b - first_high w + s = omega arith in
-          let d : b + s - a ≡ b - a + s = omega arith in
+          let d : b + s - a ≡ b - a + s = omega (arith, p.halves) in
           let c' = add-div_right (b - first_high w) p.some in
           let d' = add-div_right (b - a) p.some in
-          let l = div-le (b - first_high w) (b - a) (omega arith) in
+          let l = div-le (b - first_high w) (b - a) (omega (arith, p.halves)) in
           let u : j + 1 - 1 - n + n ≡ j = omega arith in
           let v : k + 1 - 1 - n + n ≡ k = omega arith in
           let x = add-mul (j + 1 - 1 - n) n s in
           let y = add-mul (k + 1 - 1 - n) n s in
           let x' : j * s ≡ (j + 1 - 1 - n) * s + n * s = rw u at x in
           let y' : k * s ≡ (k + 1 - 1 - n) * s + n * s = rw v at y in
-          rw (max-eq_right h, through-is (first_high w) b s p.some, through-is a b s p.some, c, d, c', d')
-          (back-high (through a (min b (half w - s)) s) (first_high w) (k + 1) (j + 1) n (omega arith) (omega arith) (omega (arith, p.apart, p.above)))
+          let z : max a (first_high w) ≡ first_high w = max-eq_right (omega (arith, p.halves)) in
+          rw (z, through-is (first_high w) b s p.some, through-is a b s p.some, c, d, c', d')
+          (back-high (through a (min b (half w - s)) s) (first_high w) (k + 1) (j + 1) n (omega arith) (omega arith) (omega (arith, p.apart, p.above, p.halves)))
 
       high : first_high w ≤ b → get_elem? (reverse (pages_through w a b s)) n ≡ get_elem? (reverse (through a b s)) n
-      high hb = by_cases (dec_lt (first_high w) a) (λ m. rw (through-high a b (omega arith))) (λ m. crossing hb (omega arith))
+      high hb = by_cases (dec_lt a (half w)) (crossing hb) (λ m. rw (through-high a b (p.high-start (omega arith))))
+
+-- the first high page is one of any size below the width
+pub high-whole : (w k : ℕ) → IsWidth w → k < w → first_high w % 2 ^ k ≡ 0
+high-whole w k v h =
+    mod-eq-zero_of_dvd (2 ^ k) (dvd-sub (2 ^ k) (dvd_of_mod-eq-zero (2 ^ k) (power-whole k 64 (omega (arith, v.below)))) (dvd_of_mod-eq-zero (2 ^ k) (power-whole k (w - 1) (omega arith))))
 
 -- two canonical multiples of a size below the width are such ends
-module _ (w k a b : ℕ) (v : IsWidth w) (h : k < w) (fa : a < 2 ^ 64) (fb : b < 2 ^ 64) (ca : sign_extend w a ≡ a) (cb : sign_extend w b ≡ b) (za : a % 2 ^ k ≡ 0) (zb : b % 2 ^ k ≡ 0) where
+module _ (w k a b : ℕ) (v : IsWidth w) (h : k + 1 < w) (fa : a < 2 ^ 64) (fb : b < 2 ^ 64) (ca : sign_extend w a ≡ a) (cb : sign_extend w b ≡ b) (za : a % 2 ^ k ≡ 0) (zb : b % 2 ^ k ≡ 0) where
   high-of : (x : ℕ) → sign_extend w x ≡ x → half w ≤ x → first_high w ≤ x
   high-of x c l = by_cases (dec_lt x (first_high w)) (λ m. absurd (canonical-no-gap w v x c (l, m))) (λ m. omega arith)
 
@@ -173,9 +187,15 @@ module _ (w k a b : ℕ) (v : IsWidth w) (h : k < w) (fa : a < 2 ^ 64) (fb : b <
         low_end = λ l. under_top k (w - 1) b (omega arith) l zb;
         high_end = high-of b cb;
         apart = apart-whole (2 ^ k) a b za zb;
-        above = apart-whole (2 ^ k) (first_high w) b (mod-eq-zero_of_dvd (2 ^ k) (dvd-sub (2 ^ k) (dvd_of_mod-eq-zero (2 ^ k) (power-whole k 64 (omega (arith, v.below)))) (dvd_of_mod-eq-zero (2 ^ k) (power-whole k (w - 1) (omega arith))))) zb;
+        above = apart-whole (2 ^ k) (first_high w) b (high-whole w k v (omega arith)) zb;
+        whole = rw sub-zero at (apart-whole (2 ^ k) 0 a (zero-mod (2 ^ k)) za);
+        to-gap = apart-whole (2 ^ k) a (half w) za (power-whole k (w - 1) (omega arith));
+        from-gap = apart-whole (2 ^ k) (first_high w) a (high-whole w k v (omega arith)) za;
+        first = under_top k 64 a (omega (arith, v.below)) fa za;
+        last = under_top k 64 b (omega (arith, v.below)) fb zb;
         some = pow_pos k;
         room = pow_mono {i = k} {j = w - 1} (omega arith);
+        two = let e : k + 1 ≤ w - 1 = omega arith in omega (arith, pow_mono {i = k + 1} {j = w - 1} e, pow-add 2 k 1);
         halves = omega arith;
       }
 

@@ -1,9 +1,9 @@
 -- The test of an item handed in, as the code has it: one number, 0 where the item is none to refuse.
 use mathlib.Core.Path.{◌≡◌, refl}
-use mathlib.Core.Bool.{Bool, true, false}
+use mathlib.Core.Bool.{Bool, true, false, cond}
 use Prim.Native.Nat.{ℕ, zero, suc, ◌+◌, ◌-◌, ◌*◌, ◌%◌, ◌^◌, ◌≤◌, ◌<◌}
 use native.Mathlib.Omega.{arith}
-use lib.Dec.{eqb}
+use lib.Dec.{eqb, lit<}
 use borrow.Author.Tests.{eqb-true, lt-ltb, le-ltb, le-leb, lt-leb}
 use Rattle.answer.specs.Outcome.{Outcome, gives, refuses, unless_refused}
 use Rattle.answer.specs.Refusal.{overflow}
@@ -81,3 +81,16 @@ virt-argument w e = omega arith
 
 pub phys-argument : (w : ℕ) → (phys w).argument ≡ 0 → ⊥
 phys-argument w e = omega arith
+
+-- the number that refuses two pages is one of theirs: 1, 3 or 7
+pub virt-items-number : (w a y b z : ℕ) → items_refusal (virt w) a y b z < 10
+unfolding items_refusal item_refusal
+virt-items-number w a y b z = go ((virt w).holds a) (eqb (a % y) 0) ((virt w).holds b) (eqb (b % z) 0) (eqb y z)
+  where
+    go : (h k h' k' e : Bool) → first_refusal (cond h (cond k 0 3) 1) (first_refusal (cond h' (cond k' 0 3) 1) (cond e 0 7)) < 10
+    go true true true true true = lit< tt
+    go true true true true false = lit< tt
+    go true true true false e = lit< tt
+    go true true false k' e = lit< tt
+    go true false h' k' e = lit< tt
+    go false k h' k' e = lit< tt

@@ -45,8 +45,10 @@ module _ (l : List ℕ) (a b s top n : ℕ) (p : 0 < s) (st : s ≤ top) (ha : a
       go true e = no_items top (top - s) s (omega arith) ∙ sym (drop_of_length-le (through a b s) {i = n + 1} (rw run_length (all-front (ltb-true _ _ e))))
       go false e = rw (through-is (a + taken (len_through a b s) n * s) b s p, through-is a b s p) (front-left a (b + s) s (n + 1) p)
 
-  -- where the end would pass 0, all is drawn
-  pub all_back : b < taken (len_through a b s) n * s → len_through a b s ≤ n + 1
+-- the same from the back: `bottom` is the lowest item, and the start is no lower
+module _ (l : List ℕ) (a b s bottom n : ℕ) (p : 0 < s) (hc : bottom ≤ a) where
+  -- where the end would pass the bottom, all is drawn
+  pub all_back : b < bottom + taken (len_through a b s) n * s → len_through a b s ≤ n + 1
   all_back h = by_cases (dec_le (len_through a b s) (n + 1)) (λ l. l) more
     where
       more : (len_through a b s ≤ n + 1 → ⊥) → len_through a b s ≤ n + 1
@@ -54,8 +56,8 @@ module _ (l : List ℕ) (a b s top n : ℕ) (p : 0 < s) (st : s ≤ top) (ha : a
           let e : min (n + 1) (len_through a b s) ≡ n + 1 = omega arith in
           absurd (omega (arith, rw e at h, steps-fit (n + 1) (len_through a b s) s (omega arith), fits-through a b s p))
 
-  pub back-through-left : reverse (through (back_through l a b s n).start (back_through l a b s n).end s) ≡ drop (n + 1) (reverse (through a b s))
-  back-through-left = go (ltb b (taken (len_through a b s) n * s)) refl
+  pub back-through-left : reverse (through (back_through l bottom a b s n).start (back_through l bottom a b s n).end s) ≡ drop (n + 1) (reverse (through a b s))
+  back-through-left = go (ltb b (bottom + taken (len_through a b s) n * s)) refl
     where
       fewer : taken (len_through a b s) n * s ≤ b → len_through a (b - taken (len_through a b s) n * s) s ≡ len_through a b s - (n + 1)
       fewer h =
@@ -63,7 +65,7 @@ module _ (l : List ℕ) (a b s top n : ℕ) (p : 0 < s) (st : s ≤ top) (ha : a
           let e : k - min (n + 1) k ≡ k - (n + 1) = omega arith in
           through-back a b s (min (n + 1) k) p h ∙ e
 
-      go : (t : Bool) → ltb b (taken (len_through a b s) n * s) ≡ t
-          → reverse (through (cond t (a + s) a) (cond t 0 (b - taken (len_through a b s) n * s)) s) ≡ drop (n + 1) (reverse (through a b s))
-      go true e = rw (no_items (a + s) 0 s (omega arith)) (sym (drop_of_length-le (reverse (through a b s)) {i = n + 1} (rw (length-reverse, run_length) (all_back (ltb-true _ _ e)))))
-      go false e = ap (λ (k : ℕ). reverse (run a s k)) (fewer (ltb-false _ _ e)) ∙ sym (back-drop a s (len_through a b s) (n + 1))
+      go : (t : Bool) → ltb b (bottom + taken (len_through a b s) n * s) ≡ t
+          → reverse (through (cond t (a + s) a) (cond t bottom (b - taken (len_through a b s) n * s)) s) ≡ drop (n + 1) (reverse (through a b s))
+      go true e = rw (no_items (a + s) bottom s (omega arith)) (sym (drop_of_length-le (reverse (through a b s)) {i = n + 1} (rw (length-reverse, run_length) (all_back (ltb-true _ _ e)))))
+      go false e = ap (λ (k : ℕ). reverse (run a s k)) (fewer (omega (arith, ltb-false b (bottom + taken (len_through a b s) n * s) e))) ∙ sym (back-drop a s (len_through a b s) (n + 1))

@@ -9,13 +9,17 @@ pub mod Entries
 pub mod Run
 pub mod Draw
 pub mod Gap
+pub mod Halves
 pub mod Left
 pub mod After
 pub mod PagesLeft
 pub mod Kept
 pub mod Next
+pub mod Within
+pub mod Before
 pub mod Drawing
 pub mod OneByOne
+pub mod Drained
 pub mod Kind
 pub mod Ranges
 pub mod Item

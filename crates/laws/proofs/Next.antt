@@ -1,8 +1,7 @@
--- Draws with n = 0, which are `next` and `next_back`: what they come to, by whether the range has an item, and that they meet the gap where they would leave an end in it.
+-- Draws with n = 0, which are `next` and `next_back`: what they come to, by whether the range has an item, and whether they meet the gap.
 use Prim.Native.Nat.{ℕ, ◌+◌, ◌-◌, ◌*◌, ◌/◌, ◌%◌, ◌≤◌, ◌<◌, min}
 use mathlib.Core.Path.{◌≡◌, refl}
-use mathlib.Core.Bool.{Bool, true, false, ◌&&◌}
-use mathlib.Core.List.{List}
+use mathlib.Core.Bool.{Bool, true, false}
 use mathlib.Core.Option.{none, some}
 use native.Mathlib.Omega.{arith}
 use native.Mathlib.Nat.{zero-mul, one-mul, add-mul, add-zero, sub-zero, div-eq_of_lt, le-div_iff_mul-le, div-add-mod', mul-le-mul_right, min-eq_left}
@@ -10,10 +9,11 @@ use borrow.Author.Tests.{lt-ltb, le-ltb, ltb-true, leb-true, eq-eqb, ne_eqb}
 use lib.Dec.{ltb, leb, eqb}
 use Rattle.laws.specs.Width.{half, first_high}
 use Rattle.laws.specs.Run.{len_below, len_through, below, through}
-use Rattle.laws.specs.Draw.{front_below, back_below, front_through, back_through, gap_front_below, gap_front_through, gap_back_below, gap_back_through}
+use Rattle.laws.specs.Draw.{front_below, back_below, front_through, back_through, gap_front, gap_back}
+use Rattle.laws.proofs.Cases.{all_three}
 use Rattle.laws.proofs.Run.{run_at, back_at, through-none}
 use Rattle.laws.proofs.Gap.{PageEnds}
-use Rattle.laws.proofs.Kept.{front-below-half, back-below-half, front-through-half, back-through-half}
+use Rattle.laws.proofs.Kept.{front-below-half, back-below-half}
 
 -- what a number is past a whole number of sizes, and one size more
 pub rest-room : (x s : ℕ) → 0 < s → s ≤ x → x % s + s ≤ x
@@ -62,8 +62,8 @@ module _ (a b s : ℕ) where
   pub next-through-none : (top : ℕ) → a ≤ top → b < a → record { item = none; start = a; end = b } ≡ front_through (through a b s) top a b s 0
   next-through-none top t h = rw (run_at, through-none a b s h, zero-mul, add-zero, le-ltb top a t)
 
-  pub next-back-through-none : b < a → record { item = none; start = a; end = b } ≡ back_through (through a b s) a b s 0
-  next-back-through-none h = rw (back_at, through-none a b s h, zero-mul, sub-zero, le-ltb b 0 (omega arith))
+  pub next-back-through-none : (bottom : ℕ) → bottom ≤ b → b < a → record { item = none; start = a; end = b } ≡ back_through (through a b s) bottom a b s 0
+  next-back-through-none bottom d h = rw (back_at, through-none a b s h, zero-mul, add-zero, sub-zero, le-ltb b bottom d)
 
   pub next-through-top : (top : ℕ) → a ≤ b → top < a + s → record { item = some a; start = top; end = top - s } ≡ front_through (through a b s) top a b s 0
   next-through-top top h t =
@@ -81,32 +81,27 @@ module _ (a b s : ℕ) where
       let e : (b - a) / s + 1 - 1 - 0 ≡ (b - a) / s = omega arith in
       rw (le-ltb b a h, e) (omega (arith, div-add-mod' (b - a) s))
 
-  pub next-back-through-zero : a ≤ b → b < s → record { item = some (b - (b - a) % s); start = a + s; end = 0 } ≡ back_through (through a b s) a b s 0
-  next-back-through-zero h t =
+  pub next-back-through-first : (bottom : ℕ) → a ≤ b → b < bottom + s → record { item = some (b - (b - a) % s); start = a + s; end = bottom } ≡ back_through (through a b s) bottom a b s 0
+  next-back-through-first bottom h t =
       let k = one-through h in
-      rw (back_at, lt-ltb 0 (len_through a b s) k, min-eq_left k, one-mul, last-at h, lt-ltb b s t)
+      rw (back_at, lt-ltb 0 (len_through a b s) k, min-eq_left k, one-mul, last-at h, lt-ltb b (bottom + s) t)
 
-  pub next-back-through-some : a ≤ b → s ≤ b → record { item = some (b - (b - a) % s); start = a; end = b - s } ≡ back_through (through a b s) a b s 0
-  next-back-through-some h t =
+  pub next-back-through-some : (bottom : ℕ) → a ≤ b → bottom + s ≤ b → record { item = some (b - (b - a) % s); start = a; end = b - s } ≡ back_through (through a b s) bottom a b s 0
+  next-back-through-some bottom h t =
       let k = one-through h in
-      rw (back_at, lt-ltb 0 (len_through a b s) k, min-eq_left k, one-mul, last-at h, le-ltb b s t)
-
--- the parts of three joined tests
-all_three : (x y z : Bool) → (x && (y && z)) ≡ true → (x ≡ true) × ((y ≡ true) × (z ≡ true))
-all_three true true z e = (refl, (refl, e))
-all_three true false z e = let o : ◌≡◌ {A = ℕ} 0 1 = cc in absurd (omega arith)
-all_three false y z e = let o : ◌≡◌ {A = ℕ} 0 1 = cc in absurd (omega arith)
+      rw (back_at, lt-ltb 0 (len_through a b s) k, min-eq_left k, one-mul, last-at h, le-ltb b (bottom + s) t)
 
 -- a test that tells whether two numbers are equal
 told : (x y : ℕ) (g : Bool) → (g ≡ true → x ≡ y) → (g ≡ false → x ≡ y → ⊥) → eqb x y ≡ g
 told x y true f h = eq-eqb x y (f refl)
 told x y false f h = ne_eqb x y (h refl)
 
--- of pages, a draw meets the gap exactly where the start left would be the first number past the low half, or the end left the number one page below the high half
+-- of pages, a draw meets the gap exactly where the start left would be the first number past the low half, or the end left the number one page below the high half; of an
+-- inclusive range, where moreover the other end is in the other half. There is room for a page in the gap.
 module _ (w s a b : ℕ) (p : PageEnds w s a b) (wide : half w + s ≤ first_high w) where
   -- the last low page
-  is-last-low : (half w - a) / s * s ≡ half w - a → a < half w → (half w - a) / s ≤ 1 → a + s ≡ half w
-  is-last-low e h l = omega (arith, p.low-start h, mul-le-mul_right {m = (half w - a) / s} {n = 1} s l, one-mul s)
+  is-last-low : a < half w → (half w - a) / s ≤ 1 → a + s ≡ half w
+  is-last-low h l = omega (arith, p.to-gap, p.low-start h, mul-le-mul_right {m = (half w - a) / s} {n = 1} s l, one-mul s)
 
   -- the first high page
   is-first-high : first_high w ≤ b → (b - first_high w) / s ≤ 0 → b ≡ first_high w
@@ -116,47 +111,24 @@ module _ (w s a b : ℕ) (p : PageEnds w s a b) (wide : half w + s ≤ first_hig
   unfolding len_below
   one-taken h = min-eq_left (one_below a b s p.some h)
 
-  pub next-below-gap : (half w - a) / s * s ≡ half w - a → eqb (a + min 1 (len_below a b s) * s) (half w) ≡ gap_front_below w a b s 0
-  unfolding gap_front_below
-  next-below-gap e = told (a + min 1 (len_below a b s) * s) (half w) (gap_front_below w a b s 0) meets (λ g u. omega (arith, front-below-half w s a b p g (omega arith), p.some))
+  pub next-below-gap : eqb (a + min 1 (len_below a b s) * s) (half w) ≡ gap_front w a b s 0
+  unfolding gap_front
+  next-below-gap = told (a + min 1 (len_below a b s) * s) (half w) (gap_front w a b s 0) meets (λ g u. omega (arith, front-below-half w s a b p g (omega arith), p.some))
     where
-      meets : gap_front_below w a b s 0 ≡ true → a + min 1 (len_below a b s) * s ≡ half w
+      meets : gap_front w a b s 0 ≡ true → a + min 1 (len_below a b s) * s ≡ half w
       meets g =
           let (x, (y, z)) = all_three (ltb a (half w)) (leb (first_high w) b) (leb ((half w - a) / s) 1) g in
-          let l = is-last-low e (ltb-true a (half w) x) (leb-true ((half w - a) / s) 1 z) in
+          let l = is-last-low (ltb-true a (half w) x) (leb-true ((half w - a) / s) 1 z) in
           let m = leb-true (first_high w) b y in
           rw (one-taken (omega arith), one-mul) l
 
-  pub next-back-below-gap : eqb (b - min 1 (len_below a b s) * s) (first_high w - s) ≡ gap_back_below w a b s 0
-  unfolding gap_back_below
-  next-back-below-gap = told (b - min 1 (len_below a b s) * s) (first_high w - s) (gap_back_below w a b s 0) meets (λ g u. omega (arith, back-below-half w s a b p g (omega arith), p.some))
+  pub next-back-below-gap : eqb (b - min 1 (len_below a b s) * s) (first_high w - s) ≡ gap_back w a b s 0
+  unfolding gap_back
+  next-back-below-gap = told (b - min 1 (len_below a b s) * s) (first_high w - s) (gap_back w a b s 0) meets (λ g u. omega (arith, back-below-half w s a b p g (omega arith), p.some))
     where
-      meets : gap_back_below w a b s 0 ≡ true → b - min 1 (len_below a b s) * s ≡ first_high w - s
+      meets : gap_back w a b s 0 ≡ true → b - min 1 (len_below a b s) * s ≡ first_high w - s
       meets g =
           let (x, (y, z)) = all_three (leb (first_high w) b) (ltb a (half w)) (leb ((b - first_high w) / s) 0) g in
           let l = is-first-high (leb-true (first_high w) b x) (leb-true ((b - first_high w) / s) 0 z) in
           let m = ltb-true a (half w) y in
           rw (one-taken (omega arith), one-mul, l)
-
-  module _ (l : List ℕ) (top : ℕ) (ha : a ≤ top) (hb : b ≤ top) (ht : first_high w + s ≤ top) where
-    pub next-through-gap : (half w - a) / s * s ≡ half w - a → eqb (front_through l top a b s 0).start (half w) ≡ gap_front_through w a b s 0
-    unfolding gap_front_through
-    next-through-gap e = told (front_through l top a b s 0).start (half w) (gap_front_through w a b s 0) meets (λ g u. omega (arith, (front-through-half w s a b p l top ha hb ht g).0 (omega arith), p.some))
-      where
-        meets : gap_front_through w a b s 0 ≡ true → (front_through l top a b s 0).start ≡ half w
-        meets g =
-            let (x, (y, z)) = all_three (ltb a (half w)) (leb (half w - s) b) (leb ((half w - a) / s) 1) g in
-            let u = is-last-low e (ltb-true a (half w) x) (leb-true ((half w - a) / s) 1 z) in
-            let m = leb-true (half w - s) b y in
-            rw (min-eq_left (one-through a b s (omega arith)), one-mul, le-ltb top (a + s) (omega arith)) u
-
-    pub next-back-through-gap : s + s ≤ half w → eqb (back_through l a b s 0).end (first_high w - s) ≡ gap_back_through w a b s 0
-    unfolding gap_back_through
-    next-back-through-gap two = told (back_through l a b s 0).end (first_high w - s) (gap_back_through w a b s 0) meets (λ g u. omega (arith, (back-through-half w s a b p l top ha hb ht two g).1 (omega arith), p.some))
-      where
-        meets : gap_back_through w a b s 0 ≡ true → (back_through l a b s 0).end ≡ first_high w - s
-        meets g =
-            let (x, (y, z)) = all_three (leb (first_high w) b) (leb a (first_high w)) (leb ((b - first_high w) / s) 0) g in
-            let u = is-first-high (leb-true (first_high w) b x) (leb-true ((b - first_high w) / s) 0 z) in
-            let m = leb-true a (first_high w) y in
-            rw (min-eq_left (one-through a b s (omega arith)), one-mul, le-ltb b s (omega arith), u)

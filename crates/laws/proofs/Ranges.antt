@@ -1,5 +1,5 @@
 -- Draws of ranges of pages and of frames, by draws on their numbers: what they give and leave, one by one.
-use Prim.Native.Nat.{ℕ, suc, ◌≤◌}
+use Prim.Native.Nat.{ℕ, suc}
 use mathlib.Core.Path.{◌≡◌, ap, ◌∙◌}
 use mathlib.Core.Option.{none, some}
 use Rattle.laws.specs.Draw.{Draw}
@@ -31,25 +31,23 @@ abbrev pub on_ends : {P : Type 0} → Kind P → (ℕ → ℕ → ℕ → ℕ �
 on_ends k on n x y = on (k.item x).bytes (k.item x).start (k.item y).start n
 
 -- a draw of the range from `x` to `y`: `number` refuses it, and `Free` says where that is 0; there it is `on`, a draw on numbers
-module _ {P : Type 0} (k : Kind P) (top : P → ℕ) (len : ℕ → ℕ → ℕ → ℕ) (Given Empty : P → P → Type 0) (Free : ℕ → P → P → Type 0)
+module _ {P : Type 0} (k : Kind P) (len : ℕ → ℕ → ℕ → ℕ) (Given Empty : P → P → Type 0) (Free : ℕ → P → P → Type 0)
     (number : ℕ → P → P → ℕ) (made_by : ℕ → P → P → Draw) (on : ℕ → ℕ → ℕ → ℕ → Draw) where
   pub record Facts : Type 0 where
     pub no_number : (n : ℕ) (x y : P) → Free n x y → number n x y ≡ 0
     pub free : (n : ℕ) (x y : P) → number n x y ≡ 0 → Free n x y
     pub given : (n : ℕ) (x y : P) → Free n x y → Given x y
     pub by-numbers : (n : ℕ) (x y : P) → Free n x y → made_by n x y ≡ on_ends k on n x y
-    pub steps : (x y : P) → Given x y → Stepwise (top x) (λ a b. len a b (k.item x).bytes) (on (k.item x).bytes)
-    pub start-within : (x y : P) → Given x y → (k.item x).start ≤ top x
-    pub end-within : (x y : P) → Given x y → (k.item y).start ≤ top x
+    pub steps : (x y : P) → Given x y → Stepwise (len (k.item x).start (k.item y).start (k.item x).bytes) (on (k.item x).bytes) (k.item x).start (k.item y).start
     pub after : (n : ℕ) (x y : P) → Free 0 x y → Free n (k.placed x (on_ends k on 0 x y).start) (k.placed y (on_ends k on 0 x y).end) → Free (suc n) x y
     pub before : (n : ℕ) (x y : P) → Free (suc n) x y → Free 0 x y × Free n (k.placed x (on_ends k on 0 x y).start) (k.placed y (on_ends k on 0 x y).end)
     pub empty-len : (x y : P) → Empty x y → len (k.item x).start (k.item y).start (k.item x).bytes ≡ 0
     pub empty-free : (n : ℕ) (x y : P) → Given x y → Empty x y → Free n x y
 
-module _ {P : Type 0} {k : Kind P} {top : P → ℕ} {len : ℕ → ℕ → ℕ → ℕ} {Given Empty : P → P → Type 0} {Free : ℕ → P → P → Type 0}
+module _ {P : Type 0} {k : Kind P} {len : ℕ → ℕ → ℕ → ℕ} {Given Empty : P → P → Type 0} {Free : ℕ → P → P → Type 0}
     {number : ℕ → P → P → ℕ} {made_by : ℕ → P → P → Draw} {on : ℕ → ℕ → ℕ → ℕ → Draw}
     {S : Type 0} {ends : P → P → S} {first last : S → P}
-    (i : Items k) (e : Ends ends first last) (f : Facts k top len Given Empty Free number made_by on) where
+    (i : Items k) (e : Ends ends first last) (f : Facts k len Given Empty Free number made_by on) where
   -- the ends that the draw with n = 0 leaves
   abbrev first-left : P → P → P
   first-left x y = k.placed x (on_ends k on 0 x y).start
@@ -82,7 +80,7 @@ module _ {P : Type 0} {k : Kind P} {top : P → ℕ} {len : ℕ → ℕ → ℕ 
       let d = on_ends k on 0 x y in
       rw (e.first_of (first-left x y) (last-left x y), e.last_of (first-left x y) (last-left x y))
       (drawn-again x y d.start d.end (on_ends k on n (first-left x y) (last-left x y))
-      ∙ ap (drawn_at k ends x y) (placed_at x y d.start d.end n ∙ (f.steps x y g).after (k.item x).start (k.item y).start n (f.start-within x y g) (f.end-within x y g)))
+      ∙ ap (drawn_at k ends x y) (placed_at x y d.start d.end n ∙ (f.steps x y g).after n))
 
   free-left : (n : ℕ) (r : S) → Free n (first-left (first r) (last r)) (last-left (first r) (last r)) ≡ Free n (first (out 0 r).range) (last (out 0 r).range)
   free-left n r = let x = first r in let y = last r in rw (e.first_of (first-left x y) (last-left x y), e.last_of (first-left x y) (last-left x y))
@@ -99,8 +97,8 @@ module _ {P : Type 0} {k : Kind P} {top : P → ℕ} {len : ℕ → ℕ → ℕ 
         given = λ n r g. f.given n (first r) (last r) g;
         after = λ n r g h. (f.after n (first r) (last r) g (rw (free-left n r) h), out-after n r (f.given 0 (first r) (last r) g));
         before = λ n r g. let (u, v) = f.before n (first r) (last r) g in (u, rw (← free-left n r) v);
-        past = λ n m r g l h. ap (drawn_at k ends (first r) (last r)) ((f.steps (first r) (last r) g).past (k.item (first r)).start (k.item (last r)).start n m l h);
-        empty = λ n r g l. ap (drawn_at k ends (first r) (last r)) ((f.steps (first r) (last r) g).empty (k.item (first r)).start (k.item (last r)).start n (f.start-within (first r) (last r) g) l) ∙ ap (λ (s : S). record { item = none; range = s }) (none-moved r);
+        past = λ n m r g l h. ap (drawn_at k ends (first r) (last r)) ((f.steps (first r) (last r) g).past n m l h);
+        empty = λ n r g l. ap (drawn_at k ends (first r) (last r)) ((f.steps (first r) (last r) g).empty n l) ∙ ap (λ (s : S). record { item = none; range = s }) (none-moved r);
         empty-len = λ r h. f.empty-len (first r) (last r) h;
         empty-free = λ n r g h. f.empty-free n (first r) (last r) g h;
       }

@@ -1,5 +1,5 @@
--- Draws from a range, on numbers: the item drawn, and where the range starts and ends after it. The sentences are those of document 01, "Ranges".
-use Rattle.std.specs.Prelude.{ℕ, ◌+◌, ◌-◌, ◌*◌, ◌/◌, min, Bool, cond, ◌&&◌, List, reverse, ltb, leb}
+-- Draws from a range, on numbers: the item drawn, and where the range starts and ends after it. The sentences are those of document 01, "Ranges", but where another is named.
+use Rattle.std.specs.Prelude.{ℕ, ◌+◌, ◌-◌, ◌*◌, ◌/◌, ◌^◌, min, Bool, cond, ◌&&◌, List, reverse, ltb, leb}
 use Rattle.std.proofs.Math.Option.{Option}
 use Rattle.std.proofs.Math.ListN.{get_elem?}
 use Rattle.laws.specs.Width.{half, first_high}
@@ -30,11 +30,12 @@ front_through l top a b s n =
     let next = a + taken (len_through a b s) n * s in
     record { item = get_elem? l n; start = cond (ltb top next) top next; end = cond (ltb top next) (top - s) b }
 
--- "or one item below it (inclusive)"; "one from the back that gives address 0 sets end on it and raises start by one item instead": where the end would pass 0
-abbrev pub back_through : List ℕ → ℕ → ℕ → ℕ → ℕ → Draw
-back_through l a b s n =
+-- "or one item below it (inclusive)"; "one from the back that gives address 0 sets end on it and raises start by one item instead": where the end would pass `bottom`,
+-- the lowest item
+abbrev pub back_through : List ℕ → ℕ → ℕ → ℕ → ℕ → ℕ → Draw
+back_through l bottom a b s n =
     let back = taken (len_through a b s) n * s in
-    record { item = get_elem? (reverse l) n; start = cond (ltb b back) (a + s) a; end = cond (ltb b back) 0 (b - back) }
+    record { item = get_elem? (reverse l) n; start = cond (ltb b (bottom + back)) (a + s) a; end = cond (ltb b (bottom + back)) bottom (b - back) }
 
 -- where the end after a draw would be below 0, at which a difference of numbers stops: that of `back_below`, and that of `front_through` at the topmost item. The other
 -- two draws lower no end below 0.
@@ -51,16 +52,24 @@ pages_to_gap w a s = (half w - a) / s
 abbrev pub pages_from_gap : ℕ → ℕ → ℕ → ℕ
 pages_from_gap w b s = (b - first_high w) / s
 
--- "front: start low, n ≥ d − 1, and end at or past the last low page (exclusive: end high)"
-unfoldable pub gap_front_below : ℕ → ℕ → ℕ → ℕ → ℕ → Bool
-gap_front_below w a b s n = ltb a (half w) && (leb (first_high w) b && leb (pages_to_gap w a s) (n + 1))
+-- "front: start low, n ≥ d − 1" and end high. So document 01 has it for exclusive ranges, and document 02, request One, for inclusive ones too: "Refusal 10 stays for ranges with
+-- start low and end high, under the conditions of 01"
+unfoldable pub gap_front : ℕ → ℕ → ℕ → ℕ → ℕ → Bool
+gap_front w a b s n = ltb a (half w) && (leb (first_high w) b && leb (pages_to_gap w a s) (n + 1))
 
-unfoldable pub gap_front_through : ℕ → ℕ → ℕ → ℕ → ℕ → Bool
-gap_front_through w a b s n = ltb a (half w) && (leb (half w - s) b && leb (pages_to_gap w a s) (n + 1))
+-- the same from the back: "end high, n ≥ k" and start low
+unfoldable pub gap_back : ℕ → ℕ → ℕ → ℕ → ℕ → Bool
+gap_back w a b s n = leb (first_high w) b && (ltb a (half w) && leb (pages_from_gap w b s) n)
 
--- "Back: end high, n ≥ k, and start at or below 0xffff_8000_0000_0000 (exclusive: start low)"
-unfoldable pub gap_back_below : ℕ → ℕ → ℕ → ℕ → ℕ → Bool
-gap_back_below w a b s n = leb (first_high w) b && (ltb a (half w) && leb (pages_from_gap w b s) n)
+-- the topmost page of a size
+abbrev pub top_page : ℕ → ℕ
+top_page s = 2 ^ 64 - s
 
-unfoldable pub gap_back_through : ℕ → ℕ → ℕ → ℕ → ℕ → Bool
-gap_back_through w a b s n = leb (first_high w) b && (leb a (first_high w) && leb (pages_from_gap w b s) n)
+-- the topmost page of an inclusive range: where start and end are low, the last low page of the size. "If start and end are both the last low page, a front draw gives it and lowers
+-- end by one page" (document 02, request One)
+unfoldable pub top_of : ℕ → ℕ → ℕ → ℕ → ℕ
+top_of w a b s = cond (ltb a (half w) && ltb b (half w)) (half w - s) (top_page s)
+
+-- its lowest page: where both are high, the first high page. "If both are the first high page, a back draw gives it and raises start by one page"
+unfoldable pub bottom_of : ℕ → ℕ → ℕ → ℕ
+bottom_of w a b = cond (leb (first_high w) a && leb (first_high w) b) (first_high w) 0

@@ -32,9 +32,13 @@ drawing draw (side ∷ sides) r = elim (draw side r) [ none ↦ none | some d �
 
 -- each item once, in order: those drawn from the front, those of the range left, those drawn from the back read backwards; after as many draws as there are items,
 -- none is left
-pub record EachOnce {S : Type 0} (items : S → List ℕ) (draw : Side → S → Option (Drawn S)) : Type 0 where
-  pub in_order : (sides : List Side) (r : S) (d : Drawing S) → drawing draw sides r ≡ some d → d.fronts ++ (items d.range ++ reverse d.backs) ≡ items r
-  pub to_the_end : (sides : List Side) (r : S) (d : Drawing S) → drawing draw sides r ≡ some d → length (items r) ≤ length sides → items d.range ≡ []
+pub record Once {S : Type 0} (items : S → List ℕ) (sides : List Side) (r : S) (d : Drawing S) : Type 0 where
+  pub in_order : d.fronts ++ (items d.range ++ reverse d.backs) ≡ items r
+  pub to_the_end : length (items r) ≤ length sides → items d.range ≡ []
+
+-- of every range, where no draw is refused
+abbrev pub EachOnce : {S : Type 0} → (S → List ℕ) → (Side → S → Option (Drawn S)) → Type 0
+EachOnce {S} items draw = (sides : List Side) (r : S) (d : Drawing S) → drawing draw sides r ≡ some d → Once items sides r d
 
 -- `next`, n times: the range left; none where one of them is refused
 unfoldable pub left_by_next : {S : Type 0} → (S → Option (Drawn S)) → ℕ → S → Option S
@@ -49,3 +53,9 @@ pub record OneByOne {S : Type 0} (Given Empty : S → Type 0) (len : S → ℕ) 
   pub as-next : (side : Side) (n : ℕ) (r : S) → nth side n r ≡ bind (left_by_next (nth side 0) n r) (nth side 0)
   -- "If n ≥ `len` and no refusal applies, it is `None` and the range is left as after drawing all", which is `len` times `next`
   pub past_all : (side : Side) (n : ℕ) (r : S) (d : Drawn S) → len r ≤ n → nth side n r ≡ some d → (d.item ≡ none) × (left_by_next (nth side 0) (len r) r ≡ some d.range)
+
+-- "A range whose start and end are in one half is thereby drained to its last page from both ends, and that is proved against the list of its pages" (document 02,
+-- request One): of the ranges that `Chosen` names, no draw is refused, with any n and in any order, and each item comes once
+pub record Drained {S : Type 0} (Chosen : S → Type 0) (items : S → List ℕ) (nth : Side → ℕ → S → Option (Drawn S)) : Type 0 where
+  pub answered : (side : Side) (n : ℕ) (r : S) → Chosen r → (d : Drawn S) × (nth side n r ≡ some d) × Chosen d.range
+  pub drained : (sides : List Side) (r : S) → Chosen r → (d : Drawing S) × (drawing (λ side. nth side 0) sides r ≡ some d) × Once items sides r d

@@ -10,3 +10,4 @@ pub mod Kind
 pub mod Address
 pub mod Item
 pub mod Range
+pub mod Before

@@ -37,3 +37,8 @@ first_high w = 2 ^ 64 - half w
 -- "The gap lies between 0x7fff_ffff_ffff and 0xffff_8000_0000_0000": above the low half, below the high one
 abbrev pub InGap : ℕ → ℕ → Type 0
 InGap w a = (half w ≤ a) × (a < 2 ^ 64 - half w)
+
+-- two addresses in one half: "A half is the pages below the gap or those above it."
+pub data InOneHalf (w a b : ℕ) : Type 0 where
+  both_low : a < half w → b < half w → InOneHalf w a b
+  both_high : first_high w ≤ a → first_high w ≤ b → InOneHalf w a b

@@ -1,11 +1,11 @@
 -- Pages drawn one by one, at either width: each of them once and in order, from either end or both, where no draw is refused; and a draw with n as n + 1 draws with n = 0.
-use Prim.Native.Nat.{ℕ, zero, suc, ◌%◌, ◌^◌, ◌≤◌, ◌<◌}
+use Prim.Native.Nat.{ℕ, zero, suc, ◌-◌, ◌%◌, ◌^◌, ◌≤◌, ◌<◌}
 use mathlib.Core.Path.{◌≡◌, refl, sym, ◌∙◌}
 use mathlib.Core.Bool.{Bool, true, false, cond}
 use mathlib.Core.List.{List, reverse}
 use mathlib.Core.Option.{some}
 use native.Mathlib.Omega.{arith}
-use native.Mathlib.Nat.{mod-eq_of_lt}
+use native.Mathlib.Nat.{zero-mod, le_of_lt}
 use borrow.Author.Tests.{eq-eqb}
 use lib.ListN.{get_elem?, drop}
 use Rattle.answer.specs.Refusal.{draw_meets_gap}
@@ -16,10 +16,12 @@ use Rattle.laws.specs.Drawing.{Side, front, back, Drawn, EachOnce, OneByOne}
 use Rattle.laws.proofs.Width.{canonical-halves}
 use Rattle.laws.proofs.Align.{top-whole}
 use Rattle.laws.proofs.Run.{below_none, through-none}
-use Rattle.laws.proofs.Draw.{front-below-start, front-through-start, front-through-end, back-through-start, back-through-end}
-use Rattle.laws.proofs.Gap.{PageEnds, front_below, back_below, front-through, back-through}
-use Rattle.laws.proofs.After.{Stepwise, front-below-steps, back-below-steps, front-through-steps, back-through-steps}
+use Rattle.laws.proofs.Draw.{front-below-start}
+use Rattle.laws.proofs.Gap.{PageEnds, high-whole, front_below, back_below, front-through, back-through}
+use Rattle.laws.proofs.Halves.{by_start, by_end, top-low, top-high, top-over, top_within, bottom-high, bottom-over, bottom-zero}
+use Rattle.laws.proofs.After.{Stepwise, front-below-steps, back-below-steps}
 use Rattle.laws.proofs.Kept as kept
+use Rattle.laws.proofs.PagesLeft as left
 use Rattle.laws.proofs.PagesLeft.{pages-front-left, pages-back-left, pages-front-through-left, pages-back-through-left}
 use Rattle.laws.proofs.Ranges.{Items, Ends, Facts, drawn_at, settled}
 use Rattle.laws.proofs.Drawing.{each-once}
@@ -32,13 +34,11 @@ use Rattle.range.specs.declared.range_inclusive.RangeInclusive.{RangeInclusive}
 use Rattle.addr.specs.Widths.{width_of}
 use Rattle.laws.specs.Item.{first_refusal, item_refusal, items_refusal}
 use Rattle.addr.specs.declared.width.Width.{Width}
-use Rattle.addr.proofs.Widths.{widths}
-use Rattle.page_draw.specs.Draws.{top_page}
+use Rattle.addr.proofs.Widths.{widths, wide}
 use Rattle.page.specs.Page.{start, bytes, page_at}
 use Rattle.page.specs.Range.{refusal, pages, pages_of, pages_inclusive_of, IsAccepted, IsAcceptedInclusive, IsEmpty, IsEmptyInclusive, len, len_inclusive, nth_from, nth_inclusive_from, next_from, next_inclusive_from}
 use Rattle.page.specs.declared.page.Page.{Page}
 use Rattle.page.proofs.Ranges as ranges
-use Rattle.page.proofs.Ranges.{two-fit, top-high}
 
 items : Items pages
 items = record { start_of = λ x a. refl; bytes_of = λ x a. refl; again = λ x a b. refl; same = λ x. refl }
@@ -50,14 +50,14 @@ passed (suc k) true h = absurd (omega arith)
 passed (suc k) false h = absurd (omega arith)
 
 -- the numbers that a draw leaves, where it does not meet the gap: both of pages
-record Pages (w z : ℕ) (d : draw.Draw) : Type 0 where
-  start-below : d.start < 2 ^ 64
-  end_below : d.end < 2 ^ 64
-  start-half : half w ≤ d.start → first_high w ≤ d.start
-  end-half : half w ≤ d.end → first_high w ≤ d.end
-  multiples : kept.Multiples z d
+pub record Pages (w z : ℕ) (d : draw.Draw) : Type 0 where
+  pub start-below : d.start < 2 ^ 64
+  pub end_below : d.end < 2 ^ 64
+  pub start-half : half w ≤ d.start → first_high w ≤ d.start
+  pub end-half : half w ≤ d.end → first_high w ≤ d.end
+  pub multiples : kept.Multiples z d
 
-accepted-left : (v : Width) (x y : Page) (d : draw.Draw) → refusal (width_of v) x y ≡ 0 → Pages (width_of v) (bytes x) d → refusal (width_of v) (page_at x.size d.start) (page_at y.size d.end) ≡ 0
+pub accepted-left : (v : Width) (x y : Page) (d : draw.Draw) → refusal (width_of v) x y ≡ 0 → Pages (width_of v) (bytes x) d → refusal (width_of v) (page_at x.size d.start) (page_at y.size d.end) ≡ 0
 unfolding items_refusal item_refusal
 accepted-left v x y d e p =
     let k = ranges.accepted v x y e in
@@ -71,100 +71,109 @@ accepted-left v x y d e p =
     )
 
 -- the draws on numbers, by the size
-abbrev on_front : ℕ → ℕ → ℕ → ℕ → draw.Draw
+abbrev pub on_front : ℕ → ℕ → ℕ → ℕ → draw.Draw
 on_front z a b n = draw.front_below (below a b z) a b z n
 
-abbrev on_back : ℕ → ℕ → ℕ → ℕ → draw.Draw
+abbrev pub on_back : ℕ → ℕ → ℕ → ℕ → draw.Draw
 on_back z a b n = draw.back_below (below a b z) a b z n
 
-abbrev on_front_inclusive : ℕ → ℕ → ℕ → ℕ → draw.Draw
-on_front_inclusive z a b n = draw.front_through (through a b z) (top_page z) a b z n
+abbrev pub on_front_inclusive : ℕ → ℕ → ℕ → ℕ → ℕ → draw.Draw
+on_front_inclusive w z a b n = draw.front_through (through a b z) (draw.top_of w a b z) a b z n
 
-abbrev on_back_inclusive : ℕ → ℕ → ℕ → ℕ → draw.Draw
-on_back_inclusive z a b n = draw.back_through (through a b z) a b z n
+abbrev pub on_back_inclusive : ℕ → ℕ → ℕ → ℕ → ℕ → draw.Draw
+on_back_inclusive w z a b n = draw.back_through (through a b z) (draw.bottom_of w a b) a b z n
 
 module _ (v : Width) (x y : Page) (e : refusal (width_of v) x y ≡ 0) where
-  abbrev w : ℕ
+  abbrev pub w : ℕ
   w = width_of v
 
   abbrev ends_of : PageEnds w (bytes x) (start x) (start y)
   ends_of = (ranges.accepted v x y e).ends
 
-  top_multiple : top_page (bytes x) % bytes x ≡ 0
-  top_multiple = top-whole (power_of x.size) 64 (omega (arith, bounds x.size))
-
-  front-pages : draw.gap_front_below w (start x) (start y) (bytes x) 0 ≡ false → Pages w (bytes x) (on_front (bytes x) (start x) (start y) 0)
+  pub front-pages : draw.gap_front w (start x) (start y) (bytes x) 0 ≡ false → Pages w (bytes x) (on_front (bytes x) (start x) (start y) 0)
   front-pages g =
       let a = ranges.accepted v x y e in
       record {
-        start-below = omega (arith, front-below-start (below (start x) (start y) (bytes x)) (start x) (start y) (bytes x) 0, a.first, a.last, a.ends.some);
-        end_below = omega (arith, a.last, a.ends.some);
+        start-below = omega (arith, front-below-start (below (start x) (start y) (bytes x)) (start x) (start y) (bytes x) 0, a.ends.first, a.ends.last, a.ends.some);
+        end_below = omega (arith, a.ends.last, a.ends.some);
         start-half = kept.front-below-half w (bytes x) (start x) (start y) a.ends g;
         end-half = a.ends.high_end;
         multiples = kept.front-below-multiples (below (start x) (start y) (bytes x)) (start x) (start y) (bytes x) 0 a.whole a.last-whole;
       }
 
-  back-pages : draw.gap_back_below w (start x) (start y) (bytes x) 0 ≡ false → Pages w (bytes x) (on_back (bytes x) (start x) (start y) 0)
+  pub back-pages : draw.gap_back w (start x) (start y) (bytes x) 0 ≡ false → Pages w (bytes x) (on_back (bytes x) (start x) (start y) 0)
   back-pages g =
       let a = ranges.accepted v x y e in
       record {
-        start-below = omega (arith, a.first, a.ends.some);
-        end_below = omega (arith, a.last, a.ends.some);
+        start-below = omega (arith, a.ends.first, a.ends.some);
+        end_below = omega (arith, a.ends.last, a.ends.some);
         start-half = a.ends.high-start;
         end-half = kept.back-below-half w (bytes x) (start x) (start y) a.ends g;
         multiples = kept.back-below-multiples (below (start x) (start y) (bytes x)) (start x) (start y) (bytes x) 0 a.whole a.last-whole;
       }
 
-  front-inclusive-pages : draw.gap_front_through w (start x) (start y) (bytes x) 0 ≡ false → Pages w (bytes x) (on_front_inclusive (bytes x) (start x) (start y) 0)
+  -- the pages to which inclusive ranges are drawn
+  top_multiple : draw.top_of w (start x) (start y) (bytes x) % bytes x ≡ 0
+  top_multiple =
+      by_start ends_of (λ h k. rw (top-low w (start x) (start y) (bytes x) h k) low) (λ h k. rw (top-over w (start x) (start y) (bytes x) (omega (arith, ends_of.halves))) top)
+      (λ h. rw (top-high w (start x) (start y) (bytes x) (omega (arith, ends_of.halves))) top)
+    where
+      top : draw.top_page (bytes x) % bytes x ≡ 0
+      top = top-whole (power_of x.size) 64 (omega (arith, bounds x.size))
+
+      low : (half w - bytes x) % bytes x ≡ 0
+      low = top-whole (power_of x.size) (w - 1) (omega (arith, bounds x.size, wide v))
+
+  bottom-multiple : draw.bottom_of w (start x) (start y) % bytes x ≡ 0
+  bottom-multiple =
+      by_end ends_of (λ k. rw (bottom-zero w (start x) (start y) (omega (arith, ends_of.halves))) (zero-mod (bytes x)))
+      (λ h k. rw (bottom-over w (start x) (start y) (omega (arith, ends_of.halves))) (zero-mod (bytes x)))
+      (λ h k. rw (bottom-high w (start x) (start y) h k) (high-whole w (power_of x.size) (widths v) (omega (arith, bounds x.size, wide v))))
+
+  pub front-inclusive-pages : draw.gap_front w (start x) (start y) (bytes x) 0 ≡ false → Pages w (bytes x) (on_front_inclusive w (bytes x) (start x) (start y) 0)
   front-inclusive-pages g =
       let a = ranges.accepted v x y e in
       let l = through (start x) (start y) (bytes x) in
-      let top = top_page (bytes x) in
+      let h = kept.front-through-half w (bytes x) (start x) (start y) a.ends l g in
+      let t = top_within w (bytes x) (start x) (start y) a.ends in
       let p = a.ends.some in
-      let s = front-through-start l (start x) (start y) (bytes x) 0 top (omega arith) (omega arith) (omega arith) in
-      let t = front-through-end l (start x) (start y) (bytes x) 0 top (omega arith) (omega arith) (omega arith) in
-      let h = kept.front-through-half w (bytes x) (start x) (start y) a.ends l top (omega arith) (omega arith) (top-high v x y e) g in
       record {
-        start-below = omega arith;
-        end_below = omega arith;
+        start-below = omega (arith, left.front-start-top w (bytes x) (start x) (start y) a.ends l 0);
+        end_below = omega (arith, left.front-end-top w (bytes x) (start x) (start y) a.ends l 0);
         start-half = h.0;
         end-half = h.1;
-        multiples = kept.front-through-multiples l (start x) (start y) (bytes x) 0 a.whole a.last-whole top top_multiple;
+        multiples = kept.front-through-multiples l (start x) (start y) (bytes x) 0 a.whole a.last-whole (draw.top_of w (start x) (start y) (bytes x)) top_multiple;
       }
 
-  back-inclusive-pages : draw.gap_back_through w (start x) (start y) (bytes x) 0 ≡ false → Pages w (bytes x) (on_back_inclusive (bytes x) (start x) (start y) 0)
+  pub back-inclusive-pages : draw.gap_back w (start x) (start y) (bytes x) 0 ≡ false → Pages w (bytes x) (on_back_inclusive w (bytes x) (start x) (start y) 0)
   back-inclusive-pages g =
       let a = ranges.accepted v x y e in
       let l = through (start x) (start y) (bytes x) in
-      let top = top_page (bytes x) in
+      let h = kept.back-through-half w (bytes x) (start x) (start y) a.ends l g in
       let p = a.ends.some in
-      let z : start x < bytes x → start x ≡ 0 = λ h. omega (arith, mod-eq_of_lt h, a.whole) in
-      let s = back-through-start l (start x) (start y) (bytes x) 0 top (omega arith) (omega arith) (omega arith) z in
-      let t = back-through-end l (start x) (start y) (bytes x) 0 top (omega arith) (omega arith) (omega arith) in
-      let h = kept.back-through-half w (bytes x) (start x) (start y) a.ends l top (omega arith) (omega arith) (top-high v x y e) (two-fit v x y e) g in
       record {
-        start-below = omega arith;
-        end_below = omega arith;
+        start-below = omega (arith, left.back-start-top w (bytes x) (start x) (start y) a.ends l 0);
+        end_below = omega (arith, left.back_end w (bytes x) (start x) (start y) a.ends l 0, a.ends.last);
         start-half = h.0;
         end-half = h.1;
-        multiples = kept.back-through-multiples l (start x) (start y) (bytes x) 0 a.whole a.last-whole;
+        multiples = kept.back-through-multiples l (start x) (start y) (bytes x) 0 a.whole a.last-whole (draw.bottom_of w (start x) (start y)) bottom-multiple;
       }
 
 -- the number that refuses a draw, and where it is 0
 abbrev number : ℕ → (ℕ → ℕ → ℕ → ℕ → ℕ → Bool) → ℕ → Page → Page → ℕ
 number w gap n x y = first_refusal (refusal w x y) (cond (gap w (start x) (start y) (bytes x) n) draw_meets_gap 0)
 
-abbrev Free : ℕ → (ℕ → ℕ → ℕ → ℕ → ℕ → Bool) → ℕ → Page → Page → Type 0
+abbrev pub Free : ℕ → (ℕ → ℕ → ℕ → ℕ → ℕ → Bool) → ℕ → Page → Page → Type 0
 Free w gap n x y = (refusal w x y ≡ 0) × (gap w (start x) (start y) (bytes x) n ≡ false)
 
 -- a draw with the pages of the range, `made`, is the draw on its numbers, `on`
 abbrev PageFacts : ℕ → (Page → Page → Type 0) → (ℕ → ℕ → ℕ → ℕ) → (ℕ → ℕ → ℕ → ℕ → ℕ → Bool) → (ℕ → ℕ → ℕ → ℕ → draw.Draw) → (ℕ → ℕ → ℕ → ℕ → draw.Draw) → Type 0
 PageFacts w Empty len gap made on =
-    Facts pages (λ x. top_page (bytes x)) len (λ x y. refusal w x y ≡ 0) Empty (Free w gap) (number w gap) (λ n x y. made (bytes x) (start x) (start y) n) on
+    Facts pages len (λ x y. refusal w x y ≡ 0) Empty (Free w gap) (number w gap) (λ n x y. made (bytes x) (start x) (start y) n) on
 
 module _ (v : Width) (Empty : Page → Page → Type 0) (len : ℕ → ℕ → ℕ → ℕ) (gap : ℕ → ℕ → ℕ → ℕ → ℕ → Bool) (made on : ℕ → ℕ → ℕ → ℕ → draw.Draw)
     (same : (x y : Page) (n : ℕ) → PageEnds (width_of v) (bytes x) (start x) (start y) → gap (width_of v) (start x) (start y) (bytes x) n ≡ false → made (bytes x) (start x) (start y) n ≡ on (bytes x) (start x) (start y) n)
-    (steps : (z : ℕ) → 0 < z → z ≤ top_page z → Stepwise (top_page z) (λ a b. len a b z) (on z))
+    (steps : (z a b : ℕ) → PageEnds (width_of v) z a b → Stepwise (len a b z) (on z) a b)
     (pages-left : (x y : Page) → refusal (width_of v) x y ≡ 0 → gap (width_of v) (start x) (start y) (bytes x) 0 ≡ false → Pages (width_of v) (bytes x) (on (bytes x) (start x) (start y) 0))
     (gap-after : (x y : Page) (n : ℕ) → refusal (width_of v) x y ≡ 0 → gap (width_of v) (start x) (start y) (bytes x) 0 ≡ false
     → gap (width_of v) (on (bytes x) (start x) (start y) 0).start (on (bytes x) (start x) (start y) 0).end (bytes x) n ≡ gap (width_of v) (start x) (start y) (bytes x) (suc n))
@@ -178,9 +187,7 @@ module _ (v : Width) (Empty : Page → Page → Type 0) (len : ℕ → ℕ → �
         free = λ n x y h. passed (refusal (width_of v) x y) (gap (width_of v) (start x) (start y) (bytes x) n) h;
         given = λ n x y f. f.0;
         by-numbers = λ n x y f. same x y n (ranges.accepted v x y f.0).ends f.1;
-        steps = λ x y g. let a = ranges.accepted v x y g in steps (bytes x) a.ends.some (omega (arith, a.small));
-        start-within = λ x y g. let a = ranges.accepted v x y g in omega (arith, a.first);
-        end-within = λ x y g. let a = ranges.accepted v x y g in omega (arith, a.last);
+        steps = λ x y g. steps (bytes x) (start x) (start y) (ranges.accepted v x y g).ends;
         after = λ n x y f h. (f.0, sym (gap-after x y n f.0 f.1) ∙ h.1);
         before = λ n x y f.
             let u = gap-first x y n f.1 in
@@ -203,53 +210,49 @@ none-through x y h = through-none (start x) (start y) (bytes x) h
 
 -- the facts of the four draws
 module _ (v : Width) where
-  front-facts : PageFacts (width_of v) EmptyBelow len_below draw.gap_front_below (λ z a b n. draw.front_below (pages_below (width_of v) a b z) a b z n) on_front
+  front-facts : PageFacts (width_of v) EmptyBelow len_below draw.gap_front (λ z a b n. draw.front_below (pages_below (width_of v) a b z) a b z n) on_front
   front-facts =
-      facts v EmptyBelow len_below draw.gap_front_below (λ z a b n. draw.front_below (pages_below (width_of v) a b z) a b z n) on_front
+      facts v EmptyBelow len_below draw.gap_front (λ z a b n. draw.front_below (pages_below (width_of v) a b z) a b z n) on_front
       (λ x y n p g. rw (front_below (width_of v) (bytes x) (start x) (start y) p n g))
-      (λ z p q. front-below-steps z (top_page z) p q)
+      (λ z a b p. front-below-steps z a b p.some)
       (front-pages v)
       (λ x y n e g. kept.front-below-gap (width_of v) (bytes x) (start x) (start y) (ranges.accepted v x y e).ends g n)
-      (λ x y n g. kept.front-below-first (width_of v) (bytes x) (start x) (start y) n g)
+      (λ x y n g. kept.front-first (width_of v) (bytes x) (start x) (start y) n g)
       none_below
-      (λ x y n p h. kept.front-below-none (width_of v) (bytes x) (start x) (start y) n p h)
+      (λ x y n p h. kept.front-none (width_of v) (bytes x) (start x) (start y) n p h)
 
-  back-facts : PageFacts (width_of v) EmptyBelow len_below draw.gap_back_below (λ z a b n. draw.back_below (pages_below (width_of v) a b z) a b z n) on_back
+  back-facts : PageFacts (width_of v) EmptyBelow len_below draw.gap_back (λ z a b n. draw.back_below (pages_below (width_of v) a b z) a b z n) on_back
   back-facts =
-      facts v EmptyBelow len_below draw.gap_back_below (λ z a b n. draw.back_below (pages_below (width_of v) a b z) a b z n) on_back
+      facts v EmptyBelow len_below draw.gap_back (λ z a b n. draw.back_below (pages_below (width_of v) a b z) a b z n) on_back
       (λ x y n p g. rw (back_below (width_of v) (bytes x) (start x) (start y) p n g))
-      (λ z p q. back-below-steps z (top_page z) p q)
+      (λ z a b p. back-below-steps z a b p.some)
       (back-pages v)
       (λ x y n e g. kept.back-below-gap (width_of v) (bytes x) (start x) (start y) (ranges.accepted v x y e).ends g n)
-      (λ x y n g. kept.back-below-first (width_of v) (bytes x) (start x) (start y) n g)
+      (λ x y n g. kept.back-first (width_of v) (bytes x) (start x) (start y) n g)
       none_below
-      (λ x y n p h. kept.back-below-none (width_of v) (bytes x) (start x) (start y) n p h)
+      (λ x y n p h. kept.back_none (width_of v) (bytes x) (start x) (start y) n p h)
 
-  front-inclusive-facts : PageFacts (width_of v) EmptyThrough len_through draw.gap_front_through (λ z a b n. draw.front_through (pages_through (width_of v) a b z) (top_page z) a b z n) on_front_inclusive
+  front-inclusive-facts : PageFacts (width_of v) EmptyThrough len_through draw.gap_front (λ z a b n. draw.front_through (pages_through (width_of v) a b z) (draw.top_of (width_of v) a b z) a b z n) (on_front_inclusive (width_of v))
   front-inclusive-facts =
-      facts v EmptyThrough len_through draw.gap_front_through (λ z a b n. draw.front_through (pages_through (width_of v) a b z) (top_page z) a b z n) on_front_inclusive
+      facts v EmptyThrough len_through draw.gap_front (λ z a b n. draw.front_through (pages_through (width_of v) a b z) (draw.top_of (width_of v) a b z) a b z n) (on_front_inclusive (width_of v))
       (λ x y n p g. rw (front-through (width_of v) (bytes x) (start x) (start y) p n g))
-      (λ z p q. front-through-steps z (top_page z) p q)
+      (left.page-front-steps (width_of v))
       (front-inclusive-pages v)
-      (λ x y n e g.
-      let a = ranges.accepted v x y e in
-      kept.front-through-gap (width_of v) (bytes x) (start x) (start y) a.ends (through (start x) (start y) (bytes x)) (top_page (bytes x)) (omega (arith, a.first)) (omega (arith, a.last)) (top-high v x y e) g n)
-      (λ x y n g. kept.front-through-first (width_of v) (bytes x) (start x) (start y) n g)
+      (λ x y n e g. kept.front-through-gap (width_of v) (bytes x) (start x) (start y) (ranges.accepted v x y e).ends (through (start x) (start y) (bytes x)) g n)
+      (λ x y n g. kept.front-first (width_of v) (bytes x) (start x) (start y) n g)
       none-through
-      (λ x y n p h. kept.front-through-none (width_of v) (bytes x) (start x) (start y) n p h)
+      (λ x y n p h. kept.front-none (width_of v) (bytes x) (start x) (start y) n p (le_of_lt h))
 
-  back-inclusive-facts : PageFacts (width_of v) EmptyThrough len_through draw.gap_back_through (λ z a b n. draw.back_through (pages_through (width_of v) a b z) a b z n) on_back_inclusive
+  back-inclusive-facts : PageFacts (width_of v) EmptyThrough len_through draw.gap_back (λ z a b n. draw.back_through (pages_through (width_of v) a b z) (draw.bottom_of (width_of v) a b) a b z n) (on_back_inclusive (width_of v))
   back-inclusive-facts =
-      facts v EmptyThrough len_through draw.gap_back_through (λ z a b n. draw.back_through (pages_through (width_of v) a b z) a b z n) on_back_inclusive
+      facts v EmptyThrough len_through draw.gap_back (λ z a b n. draw.back_through (pages_through (width_of v) a b z) (draw.bottom_of (width_of v) a b) a b z n) (on_back_inclusive (width_of v))
       (λ x y n p g. rw (back-through (width_of v) (bytes x) (start x) (start y) p n g))
-      (λ z p q. back-through-steps z (top_page z) p q)
+      (left.page-back-steps (width_of v))
       (back-inclusive-pages v)
-      (λ x y n e g.
-      let a = ranges.accepted v x y e in
-      kept.back-through-gap (width_of v) (bytes x) (start x) (start y) a.ends (through (start x) (start y) (bytes x)) (top_page (bytes x)) (omega (arith, a.first)) (omega (arith, a.last)) (top-high v x y e) g n)
-      (λ x y n g. kept.back-through-first (width_of v) (bytes x) (start x) (start y) n g)
+      (λ x y n e g. kept.back-through-gap (width_of v) (bytes x) (start x) (start y) (ranges.accepted v x y e).ends (through (start x) (start y) (bytes x)) g n)
+      (λ x y n g. kept.back-first (width_of v) (bytes x) (start x) (start y) n g)
       none-through
-      (λ x y n p h. kept.back-through-none (width_of v) (bytes x) (start x) (start y) n p h)
+      (λ x y n p h. kept.back_none (width_of v) (bytes x) (start x) (start y) n p (le_of_lt h))
 
 -- ranges by their ends
 ends : Ends {P = Page} made (λ r. r.start) (λ r. r.end)
@@ -259,27 +262,27 @@ ends_inclusive : Ends {P = Page} made_inclusive (λ r. r.start) (λ r. r.end)
 ends_inclusive = record { first_of = λ x y. refl; last_of = λ x y. refl; ends_of = λ r. refl }
 
 -- what each draw gives and leaves, and where it is not refused
-abbrev out : Side → ℕ → Range Page → Drawn (Range Page)
+abbrev pub out : Side → ℕ → Range Page → Drawn (Range Page)
 out front n r = drawn_at pages made r.start r.end (ranges.front r.start r.end n (ranges.numbers_in r.start r.end))
 out back n r = drawn_at pages made r.start r.end (ranges.back r.start r.end n (ranges.numbers_in r.start r.end))
 
-abbrev out_inclusive : Side → ℕ → RangeInclusive Page → Drawn (RangeInclusive Page)
-out_inclusive front n r = drawn_at pages made_inclusive r.start r.end (ranges.front_inclusive r.start r.end n (ranges.numbers_inclusive_in r.start r.end))
-out_inclusive back n r = drawn_at pages made_inclusive r.start r.end (ranges.back_inclusive r.start r.end n (ranges.numbers_inclusive_in r.start r.end))
+abbrev pub out_inclusive : ℕ → Side → ℕ → RangeInclusive Page → Drawn (RangeInclusive Page)
+out_inclusive w front n r = drawn_at pages made_inclusive r.start r.end (ranges.front_inclusive w r.start r.end n (ranges.numbers_inclusive_in r.start r.end))
+out_inclusive w back n r = drawn_at pages made_inclusive r.start r.end (ranges.back_inclusive w r.start r.end n (ranges.numbers_inclusive_in r.start r.end))
 
 abbrev IsFree : ℕ → Side → ℕ → Range Page → Type 0
-IsFree w front n r = Free w draw.gap_front_below n r.start r.end
-IsFree w back n r = Free w draw.gap_back_below n r.start r.end
+IsFree w front n r = Free w draw.gap_front n r.start r.end
+IsFree w back n r = Free w draw.gap_back n r.start r.end
 
 abbrev IsFreeInclusive : ℕ → Side → ℕ → RangeInclusive Page → Type 0
-IsFreeInclusive w front n r = Free w draw.gap_front_through n r.start r.end
-IsFreeInclusive w back n r = Free w draw.gap_back_through n r.start r.end
+IsFreeInclusive w front n r = Free w draw.gap_front n r.start r.end
+IsFreeInclusive w back n r = Free w draw.gap_back n r.start r.end
 
-given-range : (v : Width) (side : Side) → Settled (IsAccepted (width_of v)) IsEmpty len (IsFree (width_of v) side) (out side) (nth_from (width_of v) side)
+pub given-range : (v : Width) (side : Side) → Settled (IsAccepted (width_of v)) IsEmpty len (IsFree (width_of v) side) (out side) (nth_from (width_of v) side)
 given-range v front = settled items ends (front-facts v)
 given-range v back = settled items ends (back-facts v)
 
-given-inclusive : (v : Width) (side : Side) → Settled (IsAcceptedInclusive (width_of v)) IsEmptyInclusive len_inclusive (IsFreeInclusive (width_of v) side) (out_inclusive side) (nth_inclusive_from (width_of v) side)
+pub given-inclusive : (v : Width) (side : Side) → Settled (IsAcceptedInclusive (width_of v)) IsEmptyInclusive len_inclusive (IsFreeInclusive (width_of v) side) (out_inclusive (width_of v) side) (nth_inclusive_from (width_of v) side)
 given-inclusive v front = settled items ends_inclusive (front-inclusive-facts v)
 given-inclusive v back = settled items ends_inclusive (back-inclusive-facts v)
 
@@ -315,10 +318,9 @@ module _ (v : Width) (r : RangeInclusive Page) (d : Drawn (RangeInclusive Page))
       let q = settled_is (given-inclusive v front) 0 r d h in
       let (e, g) = (given-inclusive v front).free 0 r d h in
       let a = ranges.accepted v r.start r.end e in
-      let t = top-high v r.start r.end e in
       rw q (
         sym (front-through (width_of v) (bytes r.start) (start r.start) (start r.end) a.ends 0 g),
-        pages-front-through-left (width_of v) (bytes r.start) (start r.start) (start r.end) a.ends all (top_page (bytes r.start)) 0 (omega (arith, a.first)) (omega (arith, a.last)) (omega arith) g,
+        pages-front-through-left (width_of v) (bytes r.start) (start r.start) (start r.end) a.ends all 0 g,
       )
 
   back-inclusive-drawn : next_inclusive_from (width_of v) back r ≡ some d → (d.item ≡ get_elem? (reverse (pages_inclusive_of (width_of v) r)) 0) × (reverse (pages_inclusive_of (width_of v) d.range) ≡ drop 1 (reverse (pages_inclusive_of (width_of v) r)))
@@ -326,10 +328,9 @@ module _ (v : Width) (r : RangeInclusive Page) (d : Drawn (RangeInclusive Page))
       let q = settled_is (given-inclusive v back) 0 r d h in
       let (e, g) = (given-inclusive v back).free 0 r d h in
       let a = ranges.accepted v r.start r.end e in
-      let t = top-high v r.start r.end e in
       rw q (
         sym (back-through (width_of v) (bytes r.start) (start r.start) (start r.end) a.ends 0 g),
-        pages-back-through-left (width_of v) (bytes r.start) (start r.start) (start r.end) a.ends all (top_page (bytes r.start)) 0 (omega (arith, a.first)) (omega (arith, a.last)) (omega arith) g,
+        pages-back-through-left (width_of v) (bytes r.start) (start r.start) (start r.end) a.ends all 0 g,
       )
 
 pub pages-once : (v : Width) → EachOnce (pages_of (width_of v)) (next_from (width_of v))

@@ -1,27 +1,21 @@
 -- What a draw of pages leaves, where it does not meet the gap: the range left stands for the pages without those drawn, counted from the end they are drawn from.
-use Prim.Native.Nat.{ℕ, ◌+◌, ◌≤◌}
+use Prim.Native.Nat.{ℕ, ◌+◌}
 use mathlib.Core.Path.{◌≡◌, ap, ◌∙◌}
 use mathlib.Core.Bool.{false}
 use mathlib.Core.List.{List, reverse}
 use mathlib.Core.Option.{Option, none, some}
-use native.Mathlib.Omega.{arith}
 use lib.ListN.{get_elem?, drop}
 use Rattle.answer.specs.Outcome.{gives}
-use Rattle.laws.specs.Width.{first_high}
 use Rattle.laws.specs.Item.{Item, item}
 use Rattle.laws.specs.Kind.{item_answer}
 use Rattle.laws.specs.Run.{below, through}
-use Rattle.laws.specs.Draw.{gap_front_below, gap_front_through, gap_back_below, gap_back_through}
-use Rattle.laws.proofs.Width.{sizes}
+use Rattle.laws.specs.Draw.{gap_front, gap_back}
 use Rattle.laws.proofs.Draw.{end-at-item}
 use Rattle.laws.proofs.PagesLeft.{pages-front-left, pages-back-left, pages-front-through-left, pages-back-through-left}
 use Rattle.range.specs.declared.range.Range.{Range}
 use Rattle.range.specs.declared.range_inclusive.RangeInclusive.{RangeInclusive}
 use Rattle.addr.specs.Widths.{width_of}
 use Rattle.addr.specs.declared.width.Width.{Width}
-use Rattle.addr.proofs.Widths.{widths}
-use Rattle.page_draw.proofs.Accepted.{room_of}
-use Rattle.page_draw.specs.Draws.{top_page}
 use Rattle.page.specs.Page.{start, bytes}
 use Rattle.page.specs.Range.{refusal, pages, nth_of, nth_back_of, nth_inclusive_of, nth_back_inclusive_of, pages_of, pages_inclusive_of}
 use Rattle.page.specs.declared.page.Page.{Page}
@@ -33,19 +27,19 @@ answer-start x none i h = cc
 answer-start x (some a) i h = let q : item a (bytes x) ≡ i = cc in ap (λ (j : Item). some j.start) q
 
 module _ (v : Width) (r : Range Page) (n : ℕ) (e : refusal (width_of v) r.start r.end ≡ 0) where
-  pub nth_left : gap_front_below (width_of v) (start r.start) (start r.end) (bytes r.start) n ≡ false → pages_of (width_of v) (nth_of (width_of v) r n).range ≡ drop (n + 1) (pages_of (width_of v) r)
+  pub nth_left : gap_front (width_of v) (start r.start) (start r.end) (bytes r.start) n ≡ false → pages_of (width_of v) (nth_of (width_of v) r n).range ≡ drop (n + 1) (pages_of (width_of v) r)
   nth_left g =
       let x = accepted v r.start r.end e in
       rw (← nth-settled v r n e g) (pages-front-left (width_of v) (bytes r.start) (start r.start) (start r.end) x.ends n g)
 
-  pub nth-back-left : gap_back_below (width_of v) (start r.start) (start r.end) (bytes r.start) n ≡ false
+  pub nth-back-left : gap_back (width_of v) (start r.start) (start r.end) (bytes r.start) n ≡ false
       → reverse (pages_of (width_of v) (nth_back_of (width_of v) r n).range) ≡ drop (n + 1) (reverse (pages_of (width_of v) r))
   nth-back-left g =
       let x = accepted v r.start r.end e in
       rw (← nth-back-settled v r n e g) (pages-back-left (width_of v) (bytes r.start) (start r.start) (start r.end) x.ends n g)
 
   -- the end left is the page drawn
-  pub nth-back-end : gap_back_below (width_of v) (start r.start) (start r.end) (bytes r.start) n ≡ false
+  pub nth-back-end : gap_back (width_of v) (start r.start) (start r.end) (bytes r.start) n ≡ false
       → (i : Item) → (nth_back_of (width_of v) r n).answer ≡ gives i → start (nth_back_of (width_of v) r n).range.end ≡ i.start
   nth-back-end g i h =
       let x = accepted v r.start r.end e in
@@ -55,23 +49,19 @@ module _ (v : Width) (r : Range Page) (n : ℕ) (e : refusal (width_of v) r.star
       (end-at-item l (start r.start) (start r.end) (bytes r.start) n i.start x.ends.some x.whole x.last-whole (answer-start r.start (get_elem? (reverse l) n) i q))
 
 module _ (v : Width) (r : RangeInclusive Page) (n : ℕ) (e : refusal (width_of v) r.start r.end ≡ 0) where
-  -- the topmost page is high
-  top-high : first_high (width_of v) ≤ top_page (bytes r.start)
-  top-high = omega (arith, sizes (width_of v) (widths v), room_of v r.start.size)
-
   abbrev items : List ℕ
   items = through (start r.start) (start r.end) (bytes r.start)
 
-  pub nth-inclusive-left : gap_front_through (width_of v) (start r.start) (start r.end) (bytes r.start) n ≡ false
+  pub nth-inclusive-left : gap_front (width_of v) (start r.start) (start r.end) (bytes r.start) n ≡ false
       → pages_inclusive_of (width_of v) (nth_inclusive_of (width_of v) r n).range ≡ drop (n + 1) (pages_inclusive_of (width_of v) r)
   nth-inclusive-left g =
       let x = accepted v r.start r.end e in
       rw (← nth-inclusive-settled v r n e g)
-      (pages-front-through-left (width_of v) (bytes r.start) (start r.start) (start r.end) x.ends items (top_page (bytes r.start)) n (omega arith) (omega arith) top-high g)
+      (pages-front-through-left (width_of v) (bytes r.start) (start r.start) (start r.end) x.ends items n g)
 
-  pub nth-back-inclusive-left : gap_back_through (width_of v) (start r.start) (start r.end) (bytes r.start) n ≡ false
+  pub nth-back-inclusive-left : gap_back (width_of v) (start r.start) (start r.end) (bytes r.start) n ≡ false
       → reverse (pages_inclusive_of (width_of v) (nth_back_inclusive_of (width_of v) r n).range) ≡ drop (n + 1) (reverse (pages_inclusive_of (width_of v) r))
   nth-back-inclusive-left g =
       let x = accepted v r.start r.end e in
       rw (← nth-back-inclusive-settled v r n e g)
-      (pages-back-through-left (width_of v) (bytes r.start) (start r.start) (start r.end) x.ends items (top_page (bytes r.start)) n (omega arith) (omega arith) top-high g)
+      (pages-back-through-left (width_of v) (bytes r.start) (start r.start) (start r.end) x.ends items n g)

@@ -3,3 +3,7 @@ pub mod Assembled
 pub mod Ranges
 pub mod Left
 pub mod Drawn
+pub mod Drained
+pub mod Gap
+pub mod Before
+pub mod Half

@@ -8,7 +8,6 @@ use native.Mathlib.Decide.{ℕ_discrete}
 use native.Mathlib.Nat.{zero-mul, add-mul}
 use borrow.Author.Tests.{eq-eqb, ne_eqb, lt-ltb, le-ltb}
 use lib.Dec.{eqb}
-use Rattle.laws.specs.Width.{half, first_high}
 use Rattle.answer.specs.Outcome.{Outcome, gives, refuses, unless}
 use Rattle.answer.specs.Refusal.{overflow}
 use Rattle.laws.specs.Run.{below, through, len_through}
@@ -21,7 +20,7 @@ use Rattle.range.specs.declared.range.Range.{Range}
 use Rattle.range.specs.declared.range_inclusive.RangeInclusive.{RangeInclusive}
 use Rattle.addr.specs.Widths.{width_of}
 use Rattle.addr.specs.declared.width.Width.{Width}
-use Rattle.page_draw.specs.Draws.{top_page, nth_below, nth_back_below, nth_through, nth_back_through}
+use Rattle.page_draw.specs.Draws.{nth_below, nth_back_below, nth_through, nth_back_through}
 use Rattle.page_draw.proofs.Accepted as ends
 use Rattle.page_draw.proofs.Accepted.{Accepted}
 use Rattle.page_draw.proofs.Settled as numbers
@@ -34,13 +33,7 @@ module _ (v : Width) (x y : Page) (e : refusal (width_of v) x y ≡ 0) where
   pub accepted : Accepted (width_of v) (start x) (bytes x) (start y) (bytes y)
   accepted = ends.accepted v (start x) x.size (start y) y.size e
 
-  pub two-fit : bytes x + bytes x ≤ half (width_of v)
-  two-fit = ends.two-fit v (start x) x.size (start y) y.size e
-
-  pub top-high : first_high (width_of v) + bytes x ≤ top_page (bytes x)
-  top-high = ends.top-high v (start x) x.size (start y) y.size e
-
--- the draws on the numbers of a range from `x` to `y`, of the items `l`, and where they meet the gap
+-- the draws on the numbers of a range from `x` to `y`, of the items `l`
 module _ (x y : Page) (n : ℕ) where
   abbrev pub front : (List ℕ) → draw.Draw
   front l = draw.front_below l (start x) (start y) (bytes x) n
@@ -48,11 +41,13 @@ module _ (x y : Page) (n : ℕ) where
   abbrev pub back : (List ℕ) → draw.Draw
   back l = draw.back_below l (start x) (start y) (bytes x) n
 
+-- of an inclusive range, at the width `w`
+module _ (w : ℕ) (x y : Page) (n : ℕ) where
   abbrev pub front_inclusive : (List ℕ) → draw.Draw
-  front_inclusive l = draw.front_through l (top_page (bytes x)) (start x) (start y) (bytes x) n
+  front_inclusive l = draw.front_through l (draw.top_of w (start x) (start y) (bytes x)) (start x) (start y) (bytes x) n
 
   abbrev pub back_inclusive : (List ℕ) → draw.Draw
-  back_inclusive l = draw.back_through l (start x) (start y) (bytes x) n
+  back_inclusive l = draw.back_through l (draw.bottom_of w (start x) (start y)) (start x) (start y) (bytes x) n
 
 -- the numbers of a range from `x` to `y`
 abbrev pub numbers_in : Page → Page → List ℕ
@@ -63,28 +58,28 @@ numbers_inclusive_in x y = through (start x) (start y) (bytes x)
 
 -- each draw away from the gap: by the numbers of the range alone
 module _ (v : Width) (r : Range Page) (n : ℕ) (e : refusal (width_of v) r.start r.end ≡ 0) where
-  pub nth-settled : draw.gap_front_below (width_of v) (start r.start) (start r.end) (bytes r.start) n ≡ false → settled pages made r.start r.end (front r.start r.end n (numbers_in r.start r.end)) ≡ nth_of (width_of v) r n
+  pub nth-settled : draw.gap_front (width_of v) (start r.start) (start r.end) (bytes r.start) n ≡ false → settled pages made r.start r.end (front r.start r.end n (numbers_in r.start r.end)) ≡ nth_of (width_of v) r n
   nth-settled g =
       guarded_gives pages made r.start r.end (nth_below (width_of v) (start r.start) (bytes r.start) (start r.end) (bytes r.end) n) (front r.start r.end n (numbers_in r.start r.end))
       (numbers.nth_below v (start r.start) r.start.size (start r.end) r.end.size n e g)
 
-  pub nth-back-settled : draw.gap_back_below (width_of v) (start r.start) (start r.end) (bytes r.start) n ≡ false → settled pages made r.start r.end (back r.start r.end n (numbers_in r.start r.end)) ≡ nth_back_of (width_of v) r n
+  pub nth-back-settled : draw.gap_back (width_of v) (start r.start) (start r.end) (bytes r.start) n ≡ false → settled pages made r.start r.end (back r.start r.end n (numbers_in r.start r.end)) ≡ nth_back_of (width_of v) r n
   nth-back-settled g =
       guarded_gives pages made r.start r.end (nth_back_below (width_of v) (start r.start) (bytes r.start) (start r.end) (bytes r.end) n) (back r.start r.end n (numbers_in r.start r.end))
       (numbers.nth_back_below v (start r.start) r.start.size (start r.end) r.end.size n e g)
 
 module _ (v : Width) (r : RangeInclusive Page) (n : ℕ) (e : refusal (width_of v) r.start r.end ≡ 0) where
-  pub nth-inclusive-settled : draw.gap_front_through (width_of v) (start r.start) (start r.end) (bytes r.start) n ≡ false
-      → settled pages made_inclusive r.start r.end (front_inclusive r.start r.end n (numbers_inclusive_in r.start r.end)) ≡ nth_inclusive_of (width_of v) r n
+  pub nth-inclusive-settled : draw.gap_front (width_of v) (start r.start) (start r.end) (bytes r.start) n ≡ false
+      → settled pages made_inclusive r.start r.end (front_inclusive (width_of v) r.start r.end n (numbers_inclusive_in r.start r.end)) ≡ nth_inclusive_of (width_of v) r n
   nth-inclusive-settled g =
       guarded_gives pages made_inclusive r.start r.end (nth_through (width_of v) (start r.start) (bytes r.start) (start r.end) (bytes r.end) n)
-      (front_inclusive r.start r.end n (numbers_inclusive_in r.start r.end)) (numbers.nth_through v (start r.start) r.start.size (start r.end) r.end.size n e g)
+      (front_inclusive (width_of v) r.start r.end n (numbers_inclusive_in r.start r.end)) (numbers.front-inclusive v (start r.start) r.start.size (start r.end) r.end.size n e g)
 
-  pub nth-back-inclusive-settled : draw.gap_back_through (width_of v) (start r.start) (start r.end) (bytes r.start) n ≡ false
-      → settled pages made_inclusive r.start r.end (back_inclusive r.start r.end n (numbers_inclusive_in r.start r.end)) ≡ nth_back_inclusive_of (width_of v) r n
+  pub nth-back-inclusive-settled : draw.gap_back (width_of v) (start r.start) (start r.end) (bytes r.start) n ≡ false
+      → settled pages made_inclusive r.start r.end (back_inclusive (width_of v) r.start r.end n (numbers_inclusive_in r.start r.end)) ≡ nth_back_inclusive_of (width_of v) r n
   nth-back-inclusive-settled g =
       guarded_gives pages made_inclusive r.start r.end (nth_back_through (width_of v) (start r.start) (bytes r.start) (start r.end) (bytes r.end) n)
-      (back_inclusive r.start r.end n (numbers_inclusive_in r.start r.end)) (numbers.nth_back_through v (start r.start) r.start.size (start r.end) r.end.size n e g)
+      (back_inclusive (width_of v) r.start r.end n (numbers_inclusive_in r.start r.end)) (numbers.back-inclusive v (start r.start) r.start.size (start r.end) r.end.size n e g)
 
 -- `size` of an inclusive range: none, all of the 64-bit space, and what lies between
 module _ (a b z : ℕ) (p : 0 < z) (ha : a + z ≤ 2 ^ 64) (hb : b + z ≤ 2 ^ 64) where

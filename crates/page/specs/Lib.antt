@@ -1,2 +1,5 @@
 pub mod Page
 pub mod Range
+pub mod Gap
+pub mod Before
+pub mod Half

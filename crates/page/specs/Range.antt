@@ -1,11 +1,12 @@
 -- What the calls on ranges of pages answer, over the width `w`. A draw answers the page, none or the refusal's number, and the range left; on a refusal that is the
--- range taken. The sentences are those of document 01, "Ranges".
+-- range taken. The sentences are those of document 01, "Ranges"; those of document 02 stand at page_draw `Draws`.
 use Rattle.std.specs.Prelude.{ℕ, ◌≤◌, ◌<◌, ◌≡◌, List, eqb, Result}
 use Rattle.std.proofs.Math.Option.{Option}
 use Rattle.answer.specs.Outcome.{Outcome, gives, unless}
 use Rattle.answer.specs.Answers.{outcome_of}
 use Rattle.answer.specs.Refusal.{sizes_differ}
 use Rattle.answer.specs.declared.refusal.Refusal.{Refusal}
+use Rattle.laws.specs.Width.{InOneHalf}
 use Rattle.laws.specs.Run.{len_below, len_through, pages_below, pages_through}
 use Rattle.laws.specs.Drawing.{Side, front, back, Drawn}
 use Rattle.laws.specs.Kind.{Kind, RangeDraw, drawn_of}
@@ -58,13 +59,21 @@ pages_of w r = pages_below w (start r.start) (start r.end) (bytes r.start)
 abbrev pub pages_inclusive_of : ℕ → RangeInclusive Page → List ℕ
 pages_inclusive_of w r = pages_through w (start r.start) (start r.end) (bytes r.start)
 
--- the ranges that no call refuses; "An exclusive range is empty if start ≥ end, an inclusive one if start > end"; `len`
+-- the ranges that no call refuses
 abbrev pub IsAccepted : ℕ → Range Page → Type 0
 IsAccepted w r = refusal w r.start r.end ≡ 0
 
 abbrev pub IsAcceptedInclusive : ℕ → RangeInclusive Page → Type 0
 IsAcceptedInclusive w r = refusal w r.start r.end ≡ 0
 
+-- of these, those whose start and end are in one half
+abbrev pub IsInOneHalf : ℕ → Range Page → Type 0
+IsInOneHalf w r = IsAccepted w r × InOneHalf w (start r.start) (start r.end)
+
+abbrev pub IsInOneHalfInclusive : ℕ → RangeInclusive Page → Type 0
+IsInOneHalfInclusive w r = IsAcceptedInclusive w r × InOneHalf w (start r.start) (start r.end)
+
+-- "An exclusive range is empty if start ≥ end, an inclusive one if start > end"; `len`
 abbrev pub IsEmpty : Range Page → Type 0
 IsEmpty r = start r.end ≤ start r.start
 

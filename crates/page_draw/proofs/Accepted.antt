@@ -1,13 +1,10 @@
 -- What ends that are not refused are: two pages of one size, at a width.
-use Prim.Native.Nat.{ℕ, ◌+◌, ◌-◌, ◌%◌, ◌^◌, ◌≤◌, ◌<◌}
+use Prim.Native.Nat.{ℕ, ◌+◌, ◌%◌, ◌^◌, ◌≤◌, ◌<◌}
 use mathlib.Core.Path.{◌≡◌}
 use native.Mathlib.Omega.{arith}
 use borrow.Author.Tests.{eqb-true}
-use lib.Dec.{lit<}
-use lib.Pow.{pow_mono}
 use Rattle.laws.specs.Width.{half, first_high, sign_extend}
 use Rattle.laws.proofs.Width.{sizes, sign-lt}
-use Rattle.laws.proofs.Align.{under_top}
 use Rattle.laws.proofs.Gap.{PageEnds, page-ends}
 use Rattle.table.specs.Level.{power_of, bytes_of}
 use Rattle.table.specs.declared.size.PageSize.{PageSize}
@@ -16,28 +13,14 @@ use Rattle.laws.specs.Address.{virt}
 use Rattle.laws.specs.Item.{items_refusal}
 use Rattle.addr.specs.Widths.{width_of}
 use Rattle.addr.specs.declared.width.Width.{Width}
-use Rattle.addr.specs.declared.width.Width.TheVariants.{Bits48, Bits57}
 use Rattle.laws.proofs.Item.{virt-argument, item-passed, items-passed}
-use Rattle.addr.proofs.Widths.{widths}
-use Rattle.page_draw.specs.Draws.{top_page}
-
--- either width is more than the largest size
-pub wide : (v : Width) → 47 < width_of v
-wide Bits48 = lit< tt
-wide Bits57 = lit< tt
-
--- and a size is at most half of the space
-pub room_of : (v : Width) (s : PageSize) → bytes_of s ≤ half (width_of v)
-room_of v s = pow_mono {i = power_of s} {j = width_of v - 1} (omega (arith, wide v, bounds s))
+use Rattle.addr.proofs.Widths.{widths, wide}
 
 pub record Accepted (w a y b z : ℕ) : Type 0 where
   pub same : y ≡ z
   pub ends : PageEnds w y a b
-  pub first : a + y ≤ 2 ^ 64
-  pub last : b + y ≤ 2 ^ 64
   pub whole : a % y ≡ 0
   pub last-whole : b % y ≡ 0
-  pub small : y ≤ 2 ^ 30
 
 module _ (v : Width) (a : ℕ) (s : PageSize) (b : ℕ) (t : PageSize) (r : items_refusal (virt (width_of v)) a (bytes_of s) b (bytes_of t) ≡ 0) where
   pub accepted : Accepted (width_of v) a (bytes_of s) b (bytes_of t)
@@ -56,16 +39,10 @@ module _ (v : Width) (a : ℕ) (s : PageSize) (b : ℕ) (t : PageSize) (r : item
       record {
         same = i.2;
         ends = page-ends w (power_of s) a b (widths v) (omega arith) fa fb ca cb p.1 zb;
-        first = under_top (power_of s) 64 a (omega arith) fa p.1;
-        last = under_top (power_of s) 64 b (omega arith) fb zb;
         whole = p.1;
         last-whole = zb;
-        small = pow_mono {i = power_of s} {j = 30} (omega arith);
       }
 
-  -- two pages fit into a half, and one between the gap and the topmost
-  pub two-fit : bytes_of s + bytes_of s ≤ half (width_of v)
-  two-fit = omega (arith, accepted.small, pow_mono {i = 47} {j = width_of v - 1} (omega (arith, wide v)))
-
-  pub top-high : first_high (width_of v) + bytes_of s ≤ top_page (bytes_of s)
-  top-high = omega (arith, two-fit, sizes (width_of v) (widths v))
+  -- a page fits into the gap
+  pub gap-room : half (width_of v) + bytes_of s ≤ first_high (width_of v)
+  gap-room = omega (arith, accepted.ends.two, sizes (width_of v) (widths v))

@@ -1,3 +1,4 @@
 pub mod Accepted
+pub mod Room
 pub mod Settled
 pub mod First

@@ -2,8 +2,10 @@
 #![tactic(auto)]
 
 mod gap;
+mod half;
 mod next;
 mod nth;
 
+pub use half::top_page;
 pub use next::{next_back_below, next_back_through, next_below, next_through};
-pub use nth::{nth_back_below, nth_back_through, nth_below, nth_through, top_page};
+pub use nth::{nth_back_below, nth_back_through, nth_below, nth_through};

@@ -1,5 +1,5 @@
-// Draws of the first page or of the last: those with n = 0. Such a draw meets the gap where the range left would start or end in it. Each has its own draw and its own test of
-// the gap: a function that took both would have to take their contracts too, and be no plainer.
+// Draws of the first page or of the last: those with n = 0. Such a draw meets the gap where the range left would start or end in it; of an inclusive range, if
+// moreover the other end is in the other half. Each has its own draw and its own test of the gap: a function that took both would have to take their contracts too, and be no plainer.
 ghost use Rattle.std.specs.Prelude.{◌≡◌};
 ghost use Rattle.answer.specs.Answers.{outcome_of};
 ghost use Rattle.laws.specs.Kind.{guarded};
@@ -8,7 +8,7 @@ ghost use Rattle.draw.specs.Draws.{draw_of};
 ghost use Rattle.addr.specs.Widths.{width_of};
 ghost use Rattle.page_draw.specs.Draws.{nth_below, nth_back_below, nth_through, nth_back_through};
 
-use crate::nth::top_page;
+use crate::half::{top_page, within_high_half, within_low_half};
 use addr::Width;
 use answer::Refusal;
 use draw::Draw;
@@ -47,10 +47,10 @@ pub fn next_through(width: Width, start: Item, end: Item) -> Result<Draw, Refusa
 {
     check_both(width, start, end)?;
     let draw = numbers(start, end).next_through(top_page(start.size));
-    if draw.start == width.half() {
+    if draw.start == width.half() && width.first_high() <= end.start {
         return Err(Refusal::DrawMeetsGap);
     }
-    Ok(draw)
+    Ok(within_low_half(width, start.size, draw))
 }
 
 // From the back of an inclusive range.
@@ -60,8 +60,8 @@ pub fn next_back_through(width: Width, start: Item, end: Item) -> Result<Draw, R
 {
     check_both(width, start, end)?;
     let draw = numbers(start, end).next_back_through();
-    if draw.end == width.first_high() - start.size.bytes() {
+    if draw.end == width.first_high() - start.size.bytes() && start.start < width.half() {
         return Err(Refusal::DrawMeetsGap);
     }
-    Ok(draw)
+    Ok(within_high_half(width, start.size, draw))
 }

@@ -1,26 +1,19 @@
-// Draws of the page n places from the front or from the back. Each has its own test of the gap and its own draw: a
-// function that took both would have to take their contracts too, and be no plainer.
+// Draws of the page n places from the front or from the back. Each has its own draw: a function that took it would
+// have to take its contract too, and be no plainer.
 ghost use Rattle.std.specs.Prelude.{◌≡◌};
 ghost use Rattle.answer.specs.Answers.{outcome_of};
 ghost use Rattle.laws.specs.Kind.{guarded};
 ghost use Rattle.table.specs.Level.{bytes_of};
 ghost use Rattle.draw.specs.Draws.{draw_of};
 ghost use Rattle.addr.specs.Widths.{width_of};
-ghost use Rattle.page_draw.specs.Draws.{top_page, nth_below, nth_back_below, nth_through, nth_back_through};
+ghost use Rattle.page_draw.specs.Draws.{nth_below, nth_back_below, nth_through, nth_back_through};
 
-use crate::gap::{gap_back_below, gap_back_through, gap_front_below, gap_front_through};
+use crate::gap::{gap_back, gap_front};
+use crate::half::{top_page, within_high_half, within_low_half};
 use addr::Width;
 use answer::Refusal;
 use draw::Draw;
 use item::{Item, check_both, numbers};
-use table::PageSize;
-
-// The topmost page of a size.
-pub fn top_page(size: PageSize) -> u64
-    ensures { result ≡ top_page (bytes_of size) }
-{
-    u64::MAX - (size.bytes() - 1)
-}
 
 // From the front of an exclusive range.
 #[tactic(auto, using(crate::proofs::Settled::nth_below))]
@@ -29,7 +22,7 @@ pub fn nth_below(width: Width, start: Item, end: Item, n: u64) -> Result<Draw, R
 {
     check_both(width, start, end)?;
     let range = numbers(start, end);
-    if gap_front_below(width, range, n) {
+    if gap_front(width, range, n) {
         return Err(Refusal::DrawMeetsGap);
     }
     Ok(range.front_below(n))
@@ -42,7 +35,7 @@ pub fn nth_back_below(width: Width, start: Item, end: Item, n: u64) -> Result<Dr
 {
     check_both(width, start, end)?;
     let range = numbers(start, end);
-    if gap_back_below(width, range, n) {
+    if gap_back(width, range, n) {
         return Err(Refusal::DrawMeetsGap);
     }
     Ok(range.back_below(n))
@@ -55,10 +48,11 @@ pub fn nth_through(width: Width, start: Item, end: Item, n: u64) -> Result<Draw,
 {
     check_both(width, start, end)?;
     let range = numbers(start, end);
-    if gap_front_through(width, range, n) {
+    if gap_front(width, range, n) {
         return Err(Refusal::DrawMeetsGap);
     }
-    Ok(range.front_through(top_page(start.size), n))
+    let draw = range.front_through(top_page(start.size), n);
+    Ok(within_low_half(width, start.size, draw))
 }
 
 // From the back of an inclusive range.
@@ -68,8 +62,9 @@ pub fn nth_back_through(width: Width, start: Item, end: Item, n: u64) -> Result<
 {
     check_both(width, start, end)?;
     let range = numbers(start, end);
-    if gap_back_through(width, range, n) {
+    if gap_back(width, range, n) {
         return Err(Refusal::DrawMeetsGap);
     }
-    Ok(range.back_through(n))
+    let draw = range.back_through(n);
+    Ok(within_high_half(width, start.size, draw))
 }

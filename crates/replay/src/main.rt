@@ -1,5 +1,6 @@
-// Replays recorded answers of the unchanged Rust: reads questions with their answers from standard
-// input, asks the C interface each, and prints how many were asked and how many answers differ.
+// Replays recorded answers, of the unchanged Rust where it can be asked and document 02 has not changed
+// the answer: reads questions with their answers from standard input, asks the C interface each, and prints
+// how many were asked and how many answers differ.
 #![tactic(auto)]
 
 mod line;

@@ -1,5 +1,5 @@
-//! The cases that document 01 writes out, for the operations that are here. They hold the model to
-//! the document, before it is held against the Rust and the port.
+//! The cases that document 01 writes out, as document 02 has amended them, for the operations that
+//! are here. They hold the model to the documents, before it is held against the Rust and the port.
 
 use crate::answer::Answer;
 use crate::answer::{ANSWERED, DRAW_MEETS_GAP, NONE, PFN_TOO_LARGE, RESULT_NOT_CANONICAL};
@@ -99,11 +99,35 @@ pub const CASES: &[Case] = &[
         LEFT_IN_CASE_I,
     ),
     gives("J", "page_range_inclusive_len", &IN_CASE_J, &[1]),
-    ends("J", "page_range_inclusive_next", &IN_CASE_J, DRAW_MEETS_GAP),
-    ends(
+    gives("J", "page_range_inclusive_next", &IN_CASE_J, LEFT_IN_CASE_J),
+    gives(
         "J",
         "page_range_inclusive_nth",
         &with(IN_CASE_J, 0),
+        LEFT_IN_CASE_J,
+    ),
+    gives(
+        "request One",
+        "page_range_inclusive_next_back",
+        &FIRST_HIGH_PAGE,
+        LEFT_OF_FIRST_HIGH,
+    ),
+    gives(
+        "request One",
+        "page_range_inclusive_nth_back",
+        &with(FIRST_HIGH_PAGE, 0),
+        LEFT_OF_FIRST_HIGH,
+    ),
+    ends(
+        "request One",
+        "page_range_inclusive_next",
+        &OVER_THE_GAP,
+        DRAW_MEETS_GAP,
+    ),
+    ends(
+        "request One",
+        "page_range_inclusive_next_back",
+        &OVER_THE_GAP,
         DRAW_MEETS_GAP,
     ),
     gives("K", "page_range_len", &IN_CASE_K, &[0xf_fff0_0000_0003]),
@@ -131,6 +155,10 @@ const LEFT_IN_CASE_H: &[u64] = &[1, LAST_PAGE, LAST_PAGE, 0xffff_ffff_ffff_e000]
 const IN_CASE_I: [u64; 4] = [0, SIZE_4KIB, 0, SIZE_4KIB];
 const LEFT_IN_CASE_I: &[u64] = &[1, 0, 0x1000, 0];
 const IN_CASE_J: [u64; 4] = [LAST_LOW_PAGE, SIZE_4KIB, LAST_LOW_PAGE, SIZE_4KIB];
+const LEFT_IN_CASE_J: &[u64] = &[1, LAST_LOW_PAGE, LAST_LOW_PAGE, 0x7fff_ffff_e000];
+const FIRST_HIGH_PAGE: [u64; 4] = [FIRST_HIGH, SIZE_4KIB, FIRST_HIGH, SIZE_4KIB];
+const LEFT_OF_FIRST_HIGH: &[u64] = &[1, FIRST_HIGH, FIRST_HIGH + 0x1000, FIRST_HIGH];
+const OVER_THE_GAP: [u64; 4] = [LAST_LOW_PAGE, SIZE_4KIB, FIRST_HIGH, SIZE_4KIB];
 const START_IN_CASE_K: u64 = 0x7fff_ffff_e000;
 const END_IN_CASE_K: u64 = 0xffff_8000_0000_1000;
 const IN_CASE_K: [u64; 4] = [START_IN_CASE_K, SIZE_4KIB, END_IN_CASE_K, SIZE_4KIB];

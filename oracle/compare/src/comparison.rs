@@ -29,7 +29,7 @@ impl fmt::Display for Difference {
     }
 }
 
-/// Compares on all inputs: the cases of document 01, the boundaries, and as many drawn as wanted.
+/// Compares on all inputs: the cases of the documents, the boundaries, and as many drawn as wanted.
 pub fn compare(operation: &Operation, seed: u64, draws: u64) -> Result<Counts, Difference> {
     let mut counts = Counts::none();
     for case in cases::of(operation) {
@@ -47,28 +47,31 @@ pub fn compare(operation: &Operation, seed: u64, draws: u64) -> Result<Counts, D
 }
 
 fn compare_one(operation: &Operation, args: &[u64], counts: &mut Counts) -> Result<(), Difference> {
-    let (answer, with_rust) = ask_all(operation, args, None)?;
+    let (answer, rust) = ask_all(operation, args, None)?;
     counts.count(answer.status);
-    counts.without_rust += u64::from(!with_rust);
+    counts.without_rust += u64::from(rust.is_none());
+    counts.otherwise += u64::from(rust.is_some_and(|rust| rust != answer));
     Ok(())
 }
 
-/// The answer of all sides, and whether the Rust was among them. In a case of document 01 it must
-/// be the one written there.
+/// The answer of port and model, and the Rust's, if it has one: the same; where document 02 has changed
+/// the answer, the Rust's is that of document 01 alone. In a case of the documents port and model must
+/// give the answer written there.
 fn ask_all(
     operation: &Operation,
     args: &[u64],
     case: Option<&Case>,
-) -> Result<(Answer, bool), Difference> {
+) -> Result<(Answer, Option<Answer>), Difference> {
     let model = operation.ask_model(args);
+    let before = operation.ask_before(args);
     let rust = operation.ask_rust(args);
     let port = port::ask(operation.port, args, model.as_words().len());
 
-    let rust_agrees = rust.trouble.is_none() && rust.answer.is_none_or(|a| a == model);
+    let rust_agrees = rust.trouble.is_none() && rust.answer.is_none_or(|a| a == before);
     let port_agrees = port.as_ref().is_ok_and(|&a| a == model);
     let model_agrees = case.is_none_or(|case| case.answer() == model);
     if rust_agrees && port_agrees && model_agrees {
-        return Ok((model, rust.answer.is_some()));
+        return Ok((model, rust.answer));
     }
     Err(Difference {
         name: operation.name,
@@ -77,6 +80,7 @@ fn ask_all(
         port: port.map_or_else(|trouble| trouble, |answer| answer.to_string()),
         model: match case {
             Some(case) => format!("{model}; in case {} {}", case.name, case.answer()),
+            None if before != model => format!("{model}; of the Rust {before}"),
             None => model.to_string(),
         },
     })

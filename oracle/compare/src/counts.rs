@@ -11,6 +11,8 @@ pub struct Counts {
     pub drawn: u64,
     /// Compared with the model alone, since the Rust has no way to say the question.
     pub without_rust: u64,
+    /// The Rust answers otherwise, as it must where document 02 has changed the answer.
+    pub otherwise: u64,
     by_status: [u64; 256],
 }
 
@@ -20,6 +22,7 @@ impl Counts {
             boundary: 0,
             drawn: 0,
             without_rust: 0,
+            otherwise: 0,
             by_status: [0; 256],
         }
     }
@@ -32,6 +35,7 @@ impl Counts {
         self.boundary += other.boundary;
         self.drawn += other.drawn;
         self.without_rust += other.without_rust;
+        self.otherwise += other.otherwise;
         for (sum, more) in self.by_status.iter_mut().zip(other.by_status) {
             *sum += more;
         }
@@ -49,7 +53,14 @@ pub fn print_table(rows: &[(&str, Counts)]) {
         .collect();
 
     print!("{:NAME$}", "function");
-    for title in ["boundary", "drawn", "no Rust", "answered", "none"] {
+    for title in [
+        "boundary",
+        "drawn",
+        "no Rust",
+        "otherwise",
+        "answered",
+        "none",
+    ] {
         print!("{title:>12}");
     }
     for refusal in &refusals {
@@ -68,7 +79,12 @@ pub fn print_table(rows: &[(&str, Counts)]) {
 
 fn print_row(name: &str, counts: &Counts, refusals: &[u8]) {
     print!("{name:NAME$}");
-    for count in [counts.boundary, counts.drawn, counts.without_rust] {
+    for count in [
+        counts.boundary,
+        counts.drawn,
+        counts.without_rust,
+        counts.otherwise,
+    ] {
         print!("{count:>12}");
     }
     for status in [ANSWERED, NONE].iter().chain(refusals) {

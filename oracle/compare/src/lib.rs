@@ -1,4 +1,4 @@
-//! Compares the port with the unchanged Rust and with a model of document 01, question by question.
+//! Compares the port with the unchanged Rust and with a model of the documents, question by question.
 //!
 //! `operations` is the list to add to: a row gives an operation its three sides, and the inputs,
 //! the comparison, the replayed list and the benchmark follow from the row.

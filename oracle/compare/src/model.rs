@@ -1,4 +1,4 @@
-//! What document 01 says, in plain arithmetic on unbounded numbers (u128 is wide enough). Written
+//! What the documents say, in plain arithmetic on unbounded numbers (u128 is wide enough). Written
 //! from the document, not from the Rust or the port, and with none of their bit operations.
 
 pub mod frames;

@@ -19,7 +19,18 @@ pub struct Operation {
     pub panics: fn(Panic) -> u8,
     /// The first way behind the port's convention, for the benchmark. It does not catch panics.
     pub timed: Function,
-    pub model: fn(&[u64]) -> Answer,
+    /// What document 01 alone answers, where document 02 has changed answers.
+    pub before: Option<Before>,
+    pub model: Model,
+}
+
+pub type Model = fn(&[u64]) -> Answer;
+
+/// Document 01 alone where document 02 has changed answers, and so the Rust. Document 02 answers what was
+/// refused by this number; whatever else was answered or refused is as before.
+pub struct Before {
+    pub refusal: u8,
+    pub model: Model,
 }
 
 impl Operation {
@@ -33,9 +44,28 @@ impl Operation {
     }
 
     pub fn ask_model(&self, args: &[u64]) -> Answer {
+        self.unless_refused(args, self.model)
+    }
+
+    /// What the Rust is to answer: as the model, but where that answers what was refused before.
+    pub fn ask_before(&self, args: &[u64]) -> Answer {
+        let model = self.ask_model(args);
+        let Some(before) = &self.before else {
+            return model;
+        };
+        let answer = self.unless_refused(args, before.model);
+        assert!(
+            answer == model || answer == Answer::refused(before.refusal),
+            "{} {args:x?}: before {answer}, today {model}",
+            self.name
+        );
+        answer
+    }
+
+    fn unless_refused(&self, args: &[u64], model: Model) -> Answer {
         match model::refused_argument(self.kinds, args) {
             Some(number) => Answer::refused(number),
-            None => (self.model)(args),
+            None => model(args),
         }
     }
 }
@@ -43,7 +73,8 @@ impl Operation {
 /// A row. Each argument has a name for each of its numbers, and its kind. The ways of the Rust take
 /// the arguments in their own types, made by the Rust's own constructors; the model takes the plain
 /// numbers. `sizes` names the number that chooses the type `S` in the ways, and the sizes at which
-/// the Rust has them.
+/// the Rust has them. `before` names the refusal that document 02 has taken back, and the model of
+/// document 01 alone.
 #[macro_export]
 macro_rules! operation {
     (
@@ -52,6 +83,7 @@ macro_rules! operation {
         sizes $sizes:tt,
         rust [$first:expr $(, $other:expr)*],
         $(panics $panics:path,)?
+        $(before $refusal:ident $before:path,)?
         model $model:path
     ) => {
         $crate::operation::Operation {
@@ -65,6 +97,7 @@ macro_rules! operation {
             ],
             panics: $crate::panics!($($panics)?),
             timed: $crate::timed!($first, $params, $sizes),
+            before: $crate::before!($params $($refusal $before)?),
             model: |args| $crate::model!($model, args, $params),
         }
     };
@@ -144,6 +177,19 @@ macro_rules! asked {
         };
         $crate::rust::Answers::$by(asked() $(, $out)?)
     }};
+}
+
+#[macro_export]
+macro_rules! before {
+    ($params:tt) => {
+        None
+    };
+    ($params:tt $refusal:ident $before:path) => {
+        Some($crate::operation::Before {
+            refusal: $crate::answer::$refusal,
+            model: |args| $crate::model!($before, args, $params),
+        })
+    };
 }
 
 /// The model, asked with the numbers in `args`.

@@ -16,7 +16,7 @@ use generator::Generator;
 const SEED: u64 = 1;
 const DRAWS: u64 = 20_000;
 
-/// Questions with the oracle's answers: the cases of document 01, the ends of indices and offsets,
+/// Questions with the oracle's answers: the cases of the documents, the ends of indices and offsets,
 /// and a choice in which each kind of answer has about the same share, from boundaries and drawn
 /// ones.
 pub fn of(operation: &Operation) -> BTreeMap<Vec<u64>, Answer> {
@@ -123,18 +123,20 @@ fn choice(operation: &Operation, args: &[u64], answer: &Answer) -> Option<u64> {
     })
 }
 
-/// The Rust's answer, or the model's where the Rust has no way to say the question.
+/// The Rust's answer, or the model's where the Rust has no way to say the question or document 02
+/// has changed the answer.
 fn oracle(operation: &Operation, args: &[u64]) -> Answer {
     let model = operation.ask_model(args);
+    let before = operation.ask_before(args);
     let rust = operation.ask_rust(args);
     if let Some(trouble) = rust.trouble {
         panic!("{} {args:x?}: {trouble}", operation.name);
     }
-    let answer = rust.answer.unwrap_or(model);
+    let answer = rust.answer.unwrap_or(before);
     assert!(
-        answer == model,
-        "{} {args:x?}: Rust {answer}, model {model}",
+        answer == before,
+        "{} {args:x?}: Rust {answer}, model {before}",
         operation.name
     );
-    answer
+    model
 }

@@ -17,10 +17,39 @@ enum Bound {
     Inclusive,
 }
 
+/// Whose rules: those of document 01 alone, which are the Rust's, or today's, with what document 02
+/// has changed.
+#[derive(Clone, Copy, PartialEq, Eq)]
+enum Rules {
+    Document01,
+    Today,
+}
+
+impl Rules {
+    /// Request One speaks of ranges whose start and end are in one half; of others today's rules are those
+    /// of before, and the Rust is held to them.
+    fn of_range(self, start: u128, end: u128) -> Rules {
+        if in_low_half(start, end) || in_high_half(start, end) {
+            self
+        } else {
+            Rules::Today
+        }
+    }
+}
+
 const FIRST_HIGH: u128 = power(64) - power(47);
+
+fn in_low_half(start: u128, end: u128) -> bool {
+    start < power(47) && end < power(47)
+}
+
+fn in_high_half(start: u128, end: u128) -> bool {
+    start >= FIRST_HIGH && end >= FIRST_HIGH
+}
 
 #[derive(Clone, Copy)]
 struct Range {
+    rules: Rules,
     items: Items,
     bound: Bound,
     size: u128,
@@ -48,11 +77,24 @@ impl Range {
         }
     }
 
-    /// The topmost page or frame of this size.
+    /// The item that counts as the topmost of this size. Document 02, request One: of pages in the low
+    /// half, the last one of that half.
     fn topmost(self) -> u128 {
+        let low = in_low_half(self.start, self.end);
         match self.items {
+            Items::Pages if low && self.rules == Rules::Today => power(47) - self.size,
             Items::Pages => power(64) - self.size,
             Items::Frames => power(52) - self.size,
+        }
+    }
+
+    /// The item that counts as the one at address 0. Document 02, request One: of pages in the high
+    /// half, the first one of that half.
+    fn lowest(self) -> u128 {
+        let high = in_high_half(self.start, self.end);
+        match self.items {
+            Items::Pages if high && self.rules == Rules::Today => FIRST_HIGH,
+            Items::Pages | Items::Frames => 0,
         }
     }
 
@@ -63,9 +105,9 @@ impl Range {
         }
         let up_to_gap = (power(47) - self.start) / self.size;
         let last_low = power(47) - self.size;
-        let end_reaches = match self.bound {
-            Bound::Exclusive => self.end >= FIRST_HIGH,
-            Bound::Inclusive => self.end >= last_low,
+        let end_reaches = match (self.bound, self.rules) {
+            (Bound::Inclusive, Rules::Document01) => self.end >= last_low,
+            (Bound::Exclusive, _) | (_, Rules::Today) => self.end >= FIRST_HIGH,
         };
         n >= up_to_gap - 1 && end_reaches
     }
@@ -76,9 +118,9 @@ impl Range {
             return false;
         }
         let down_to_gap = (self.end - FIRST_HIGH) / self.size;
-        let start_reaches = match self.bound {
-            Bound::Exclusive => self.start < power(47),
-            Bound::Inclusive => self.start <= FIRST_HIGH,
+        let start_reaches = match (self.bound, self.rules) {
+            (Bound::Inclusive, Rules::Document01) => self.start <= FIRST_HIGH,
+            (Bound::Exclusive, _) | (_, Rules::Today) => self.start < power(47),
         };
         n >= down_to_gap && start_reaches
     }
@@ -103,9 +145,9 @@ impl Range {
     fn below(self, item: u128) -> Range {
         match self.bound {
             Bound::Exclusive => Range { end: item, ..self },
-            Bound::Inclusive if item == 0 => Range {
+            Bound::Inclusive if item == self.lowest() => Range {
                 start: self.start + self.size,
-                end: 0,
+                end: item,
                 ..self
             },
             Bound::Inclusive => Range {
@@ -172,13 +214,14 @@ fn word(number: u128) -> u64 {
 
 /// The functions on ranges of one type.
 macro_rules! functions {
-    ($($module:ident: $bound:ident $items:ident;)*) => {$(
+    ($($module:ident: $bound:ident $items:ident $rules:ident;)*) => {$(
         pub mod $module {
-            use super::{answered, truth, Bound, Items, Range};
+            use super::{answered, truth, Bound, Items, Range, Rules};
             use crate::answer::Answer;
 
             fn range(start: u128, size: u128, end: u128) -> Range {
                 Range {
+                    rules: Rules::$rules.of_range(start, end),
                     items: Items::$items,
                     bound: Bound::$bound,
                     size,
@@ -223,10 +266,11 @@ macro_rules! functions {
 }
 
 functions! {
-    page_range: Exclusive Pages;
-    page_range_inclusive: Inclusive Pages;
-    phys_frame_range: Exclusive Frames;
-    phys_frame_range_inclusive: Inclusive Frames;
+    page_range: Exclusive Pages Today;
+    page_range_inclusive: Inclusive Pages Today;
+    page_range_inclusive_before: Inclusive Pages Document01;
+    phys_frame_range: Exclusive Frames Today;
+    phys_frame_range_inclusive: Inclusive Frames Today;
 }
 
 /// Only a range of 2 MiB pages has one.

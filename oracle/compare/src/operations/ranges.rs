@@ -132,6 +132,7 @@ pub const PAGE_RANGE_INCLUSIVE: &[Operation] = &[
             |range: PageRangeInclusive<S>| drawn(range, |range| range.nth(0))
         ],
         panics refusal_of_draw,
+        before DRAW_MEETS_GAP ranges::page_range_inclusive_before::next,
         model ranges::page_range_inclusive::next
     },
     operation! {
@@ -140,6 +141,7 @@ pub const PAGE_RANGE_INCLUSIVE: &[Operation] = &[
         sizes (start_size: Size4KiB Size2MiB Size1GiB),
         rust [|range: PageRangeInclusive<S>, n| drawn(range, |range| range.nth(n))],
         panics refusal_of_draw,
+        before DRAW_MEETS_GAP ranges::page_range_inclusive_before::nth,
         model ranges::page_range_inclusive::nth
     },
     operation! {
@@ -151,6 +153,7 @@ pub const PAGE_RANGE_INCLUSIVE: &[Operation] = &[
             |range: PageRangeInclusive<S>| drawn(range, |range| range.nth_back(0))
         ],
         panics refusal_of_draw,
+        before DRAW_MEETS_GAP ranges::page_range_inclusive_before::next_back,
         model ranges::page_range_inclusive::next_back
     },
     operation! {
@@ -159,6 +162,7 @@ pub const PAGE_RANGE_INCLUSIVE: &[Operation] = &[
         sizes (start_size: Size4KiB Size2MiB Size1GiB),
         rust [|range: PageRangeInclusive<S>, n| drawn(range, |range| range.nth_back(n))],
         panics refusal_of_draw,
+        before DRAW_MEETS_GAP ranges::page_range_inclusive_before::nth_back,
         model ranges::page_range_inclusive::nth_back
     },
 ];
