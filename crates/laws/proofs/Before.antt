@@ -17,7 +17,7 @@ use Rattle.laws.proofs.Run.{steps-fit}
 use Rattle.laws.proofs.Gap.{PageEnds, not-gap}
 use Rattle.laws.proofs.Halves.{by_start, by_end, top-low, top-high, top-over, bottom-high, bottom-over, bottom-zero, start-bottom}
 use Rattle.laws.proofs.PagesLeft.{next-within}
-use Rattle.laws.proofs.Kept.{front_low, back-high}
+use Rattle.laws.proofs.Kept.{front-low, back-high}
 
 -- the lowest item at 0
 pub back-from-zero : (l : List ℕ) (a b s n : ℕ) → back_through l 0 a b s n ≡ before.back_through l a b s n
@@ -53,7 +53,7 @@ module _ (w s a b : ℕ) (p : PageEnds w s a b) (l : List ℕ) (n : ℕ) where
       low h k =
           let g = f (both_low h k) in
           let i = low-within h k g in (
-            front_low w s a b n (omega (arith, p.halves)) ∙ sym g,
+            front-low w s a b n (omega (arith, p.halves)) ∙ sym g,
             rw (top-low w a b s h k, le-ltb (half w - s) (a + drawn) (omega arith), le-ltb (top_page s) (a + drawn) (omega (arith, p.halves))),
           )
 

@@ -56,11 +56,11 @@ module _ (w s a b : ℕ) (p : PageEnds w s a b) where
   end-top = by_start p (λ h k. rw (top-low w a b s h k) (omega (arith, p.low_end k))) (λ h k. rw (top-over w a b s (omega (arith, p.halves))) (omega (arith, p.last))) (λ h. rw (top-high w a b s (omega (arith, p.halves))) (omega (arith, p.last)))
 
   -- two pages fit up to it
-  pub size_top : s ≤ top_of w a b s
-  size_top = by_start p (λ h k. rw (top-low w a b s h k) (omega (arith, p.two))) (λ h k. rw (top-over w a b s (omega (arith, p.halves))) (omega (arith, p.two, p.halves))) (λ h. rw (top-high w a b s (omega (arith, p.halves))) (omega (arith, p.two, p.halves)))
+  pub size-top : s ≤ top_of w a b s
+  size-top = by_start p (λ h k. rw (top-low w a b s h k) (omega (arith, p.two))) (λ h k. rw (top-over w a b s (omega (arith, p.halves))) (omega (arith, p.two, p.halves))) (λ h. rw (top-high w a b s (omega (arith, p.halves))) (omega (arith, p.two, p.halves)))
 
-  pub top_within : top_of w a b s ≤ top_page s
-  top_within = by_start p (λ h k. rw (top-low w a b s h k) (omega (arith, p.halves))) (λ h k. rw (top-over w a b s (omega (arith, p.halves))) (omega arith)) (λ h. rw (top-high w a b s (omega (arith, p.halves))) (omega arith))
+  pub top-within : top_of w a b s ≤ top_page s
+  top-within = by_start p (λ h k. rw (top-low w a b s h k) (omega (arith, p.halves))) (λ h k. rw (top-over w a b s (omega (arith, p.halves))) (omega arith)) (λ h. rw (top-high w a b s (omega (arith, p.halves))) (omega arith))
 
   pub bottom-start : bottom_of w a b ≤ a
   bottom-start = by_end p (λ k. rw (bottom-zero w a b (omega (arith, p.halves))) (omega arith)) (λ h k. rw (bottom-over w a b (omega (arith, p.halves))) (omega arith)) (λ h k. rw (bottom-high w a b h k) h)

@@ -72,17 +72,17 @@ module _ (w s a b n : ℕ) where
   back-first g = less-far (leb (first_high w) b) (ltb a (half w)) ((b - first_high w) / s) (suc n) 0 (omega arith) g
 
   -- only a range from the low half to the high one meets the gap
-  pub front_low : b < first_high w → gap_front w a b s n ≡ false
+  pub front-low : b < first_high w → gap_front w a b s n ≡ false
   unfolding gap_front
-  front_low k = simp (lt-leb (first_high w) b k, and-false)
+  front-low k = simp (lt-leb (first_high w) b k, and-false)
 
   pub front-high : half w ≤ a → gap_front w a b s n ≡ false
   unfolding gap_front
   front-high h = rw (le-ltb a (half w) h)
 
-  pub back_low : b < first_high w → gap_back w a b s n ≡ false
+  pub back-low : b < first_high w → gap_back w a b s n ≡ false
   unfolding gap_back
-  back_low k = rw (lt-leb (first_high w) b k)
+  back-low k = rw (lt-leb (first_high w) b k)
 
   pub back-high : half w ≤ a → gap_back w a b s n ≡ false
   unfolding gap_back
@@ -91,10 +91,10 @@ module _ (w s a b n : ℕ) where
   -- so an empty one does not
   module _ (p : PageEnds w s a b) where
     pub front-none : b ≤ a → gap_front w a b s n ≡ false
-    front-none h = by_cases (dec_lt a (half w)) (λ k. front_low (omega (arith, p.halves))) (λ k. front-high (omega arith))
+    front-none h = by_cases (dec_lt a (half w)) (λ k. front-low (omega (arith, p.halves))) (λ k. front-high (omega arith))
 
-    pub back_none : b ≤ a → gap_back w a b s n ≡ false
-    back_none h = by_cases (dec_lt a (half w)) (λ k. back_low (omega (arith, p.halves))) (λ k. back-high (omega arith))
+    pub back-none : b ≤ a → gap_back w a b s n ≡ false
+    back-none h = by_cases (dec_lt a (half w)) (λ k. back-low (omega (arith, p.halves))) (λ k. back-high (omega arith))
 
 -- the pages of a range from `a` to `b`, after a draw with n = 0
 module _ (w s a b : ℕ) (p : PageEnds w s a b) where
@@ -214,8 +214,8 @@ module _ (w s a b : ℕ) (p : PageEnds w s a b) where
     front-through-gap g n =
         by_start p
         (λ h k.
-        front_low w s (front w s a b p l 0).start (front w s a b p l 0).end n (omega (arith, front-end-top w s a b p l 0, top-low w a b s h k, p.some, p.room, p.halves))
-        ∙ sym (front_low w s a b (suc n) (omega (arith, p.halves))))
+        front-low w s (front w s a b p l 0).start (front w s a b p l 0).end n (omega (arith, front-end-top w s a b p l 0, top-low w a b s h k, p.some, p.room, p.halves))
+        ∙ sym (front-low w s a b (suc n) (omega (arith, p.halves))))
         over
         (λ h.
         front-high w s (front w s a b p l 0).start (front w s a b p l 0).end n (omega (arith, front-start w s a b p l 0, p.halves))
@@ -233,7 +233,7 @@ module _ (w s a b : ℕ) (p : PageEnds w s a b) where
     unfolding gap_back
     back-through-gap g n =
         by_end p
-        (λ k. back_low w s (back w s a b p l 0).start (back w s a b p l 0).end n (omega (arith, back_end w s a b p l 0, p.halves)) ∙ sym (back_low w s a b (suc n) (omega (arith, p.halves))))
+        (λ k. back-low w s (back w s a b p l 0).start (back w s a b p l 0).end n (omega (arith, back_end w s a b p l 0, p.halves)) ∙ sym (back-low w s a b (suc n) (omega (arith, p.halves))))
         over
         (λ h k.
         back-high w s (back w s a b p l 0).start (back w s a b p l 0).end n (omega (arith, back_start w s a b p l 0, p.halves))

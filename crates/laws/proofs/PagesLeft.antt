@@ -19,7 +19,7 @@ use Rattle.laws.proofs.Draw.{front-through-start, front-through-end, back-throug
 use Rattle.laws.proofs.Left.{front-through-left, back-through-left}
 use Rattle.laws.proofs.After.{Stepwise, front-through-steps, back-through-steps}
 use Rattle.laws.proofs.Gap.{PageEnds, not-gap, div-le, pages-low, pages-high, through-low, through-high}
-use Rattle.laws.proofs.Halves.{by_start, by_end, top-low, top-high, top-over, bottom-high, bottom-over, bottom-zero, start-top, end-top, size_top, bottom-start, bottom-end, bottom-room, start-bottom}
+use Rattle.laws.proofs.Halves.{by_start, by_end, top-low, top-high, top-over, bottom-high, bottom-over, bottom-zero, start-top, end-top, size-top, bottom-start, bottom-end, bottom-room, start-bottom}
 
 module _ (w s a b : ℕ) (p : PageEnds w s a b) where
   pub pages-front-left : (n : ℕ) → gap_front w a b s n ≡ false → pages_below w (a + taken (len_below a b s) n * s) b s ≡ drop (n + 1) (pages_below w a b s)
@@ -104,13 +104,13 @@ module _ (w s a b : ℕ) (p : PageEnds w s a b) where
     front-end m = by_cases (dec_lt (top_of w a b s) next) (λ h. rw (lt-ltb (top_of w a b s) next h)) (λ h. absurd (m (moved (omega arith)).1))
 
     pub front-start-top : front.start ≤ top_of w a b s
-    front-start-top = front-through-start l a b s n (top_of w a b s) (start-top w s a b p) (end-top w s a b p) (size_top w s a b p)
+    front-start-top = front-through-start l a b s n (top_of w a b s) (start-top w s a b p) (end-top w s a b p) (size-top w s a b p)
 
     pub front-end-top : front.end ≤ top_of w a b s
-    front-end-top = front-through-end l a b s n (top_of w a b s) (start-top w s a b p) (end-top w s a b p) (size_top w s a b p)
+    front-end-top = front-through-end l a b s n (top_of w a b s) (start-top w s a b p) (end-top w s a b p) (size-top w s a b p)
 
     run-front-left : through front.start front.end s ≡ drop (n + 1) (through a b s)
-    run-front-left = front-through-left l a b s (top_of w a b s) n p.some (size_top w s a b p) (start-top w s a b p) (end-top w s a b p)
+    run-front-left = front-through-left l a b s (top_of w a b s) n p.some (size-top w s a b p) (start-top w s a b p) (end-top w s a b p)
 
     pub pages-front-through-left : gap_front w a b s n ≡ false → pages_through w front.start front.end s ≡ drop (n + 1) (pages_through w a b s)
     unfolding gap_front pages_through len_below
@@ -204,8 +204,8 @@ module _ (w s a b : ℕ) (p : PageEnds w s a b) where
             (ap (λ (v : List ℕ). v ++ reverse u) q')
 
     -- the topmost and the lowest page are the same for what is left
-    pub top_kept : top_of w front.start front.end s ≡ top_of w a b s
-    top_kept =
+    pub top-kept : top_of w front.start front.end s ≡ top_of w a b s
+    top-kept =
         by_start p
         (λ h k.
         let e = top-low w a b s h k in
@@ -239,8 +239,8 @@ module _ (w s a b : ℕ) (p : PageEnds w s a b) where
 module _ (w s a b : ℕ) (p : PageEnds w s a b) where
   pub page-front-steps : Stepwise (len_through a b s) (λ a b n. front_through (through a b s) (top_of w a b s) a b s n) a b
   page-front-steps =
-      let t = front-through-steps s a b p.some (top_of w a b s) (size_top w s a b p) (start-top w s a b p) (end-top w s a b p) in
-      record { after = λ n. rw (top_kept w s a b p (through a b s) 0) (t.after n); past = t.past; empty = t.empty }
+      let t = front-through-steps s a b p.some (top_of w a b s) (size-top w s a b p) (start-top w s a b p) (end-top w s a b p) in
+      record { after = λ n. rw (top-kept w s a b p (through a b s) 0) (t.after n); past = t.past; empty = t.empty }
 
   pub page-back-steps : Stepwise (len_through a b s) (λ a b n. back_through (through a b s) (bottom_of w a b) a b s n) a b
   page-back-steps =

@@ -2,23 +2,31 @@
 -- is drawn. There is room for a page in the gap.
 use Prim.Native.Nat.{ℕ, ◌+◌, ◌-◌, ◌*◌, ◌/◌, ◌≤◌, ◌<◌}
 use mathlib.Core.Path.{◌≡◌, sym, ap, ◌∙◌}
-use mathlib.Core.Bool.{true, false, ◌&&◌}
+use mathlib.Core.Bool.{true, false, ◌&&◌, cond}
 use mathlib.Core.List.{List, reverse}
 use native.Mathlib.Omega.{arith}
-use native.Mathlib.Decide.{dec_lt}
+use native.Mathlib.Decide.{ℕ_discrete, dec_lt}
 use native.Mathlib.Nat.{zero-mul, one-mul, mul-le-mul_right, lt_of_mul-lt-mul_right}
 use borrow.Author.Tests.{lt-ltb, le-ltb, le-leb, lt-leb, leb-false, eq-eqb, ne_eqb}
 use lib.Dec.{ltb, leb, eqb}
 use lib.ListN.{get_elem?}
 use Rattle.laws.specs.Width.{half, first_high}
 use Rattle.laws.specs.Run.{len_through}
-use Rattle.laws.specs.Draw.{taken, front_through, back_through, top_page, top_of, bottom_of, gap_front, gap_back}
+use Rattle.laws.specs.Draw.{Draw, taken, front_through, back_through, top_page, top_of, bottom_of, gap_front, gap_back}
 use Rattle.laws.proofs.Cases.{by_cases, and-false}
 use Rattle.laws.proofs.Run.{steps-fit}
 use Rattle.laws.proofs.Gap.{PageEnds, not-gap}
 use Rattle.laws.proofs.Halves.{by_start, by_end, top-low, top-high, top-over, bottom-high, bottom-over, bottom-zero}
 use Rattle.laws.proofs.PagesLeft.{next-within}
 use Rattle.laws.proofs.Kept.{through-one}
+
+-- a draw that goes up to the topmost page, or down to address 0: where it would leave the start or the end in the gap, the last page of its half is drawn, and start and end are set by
+-- that page. What the code makes of a draw on numbers; its private contracts cite it.
+abbrev pub within_low_half : ℕ → ℕ → Draw → Draw
+within_low_half w s d = cond (eqb d.start (half w)) (record { item = d.item; start = half w - s; end = half w - s - s }) d
+
+abbrev pub within_high_half : ℕ → ℕ → Draw → Draw
+within_high_half w s d = cond (eqb d.end (first_high w - s)) (record { item = d.item; start = first_high w + s; end = first_high w }) d
 
 module _ (w s a b : ℕ) (p : PageEnds w s a b) (wide : half w + s ≤ first_high w) (l : List ℕ) where
   module _ (n : ℕ) where
@@ -46,7 +54,7 @@ module _ (w s a b : ℕ) (p : PageEnds w s a b) (wide : half w + s ≤ first_hig
     start-below : a + count * s ≤ half w → (front_through l (top_page s) a b s n).start ≡ a + count * s
     start-below h = rw (le-ltb (top_page s) (a + count * s) (omega (arith, p.two, p.halves)))
 
-    pub front-past : gap_front w a b s n ≡ false → (front_through l (top_page s) a b s n).start ≡ half w
+    front-past : gap_front w a b s n ≡ false → (front_through l (top_page s) a b s n).start ≡ half w
         → record { item = get_elem? l n; start = half w - s; end = half w - s - s } ≡ front_through l (top_of w a b s) a b s n
     front-past g e =
         by_start p low (λ h k. let u = over-front h k g in absurd (omega (arith, sym (start-below (omega arith)) ∙ e))) (λ h. absurd (start-high h e))
@@ -57,7 +65,7 @@ module _ (w s a b : ℕ) (p : PageEnds w s a b) (wide : half w + s ≤ first_hig
             let v : a + count * s ≡ half w = sym (start-below u) ∙ e in
             rw (top-low w a b s h k, lt-ltb (half w - s) (a + count * s) (omega (arith, p.some, p.room)))
 
-    pub front-inside : gap_front w a b s n ≡ false → ((front_through l (top_page s) a b s n).start ≡ half w → ⊥) → front_through l (top_page s) a b s n ≡ front_through l (top_of w a b s) a b s n
+    front-inside : gap_front w a b s n ≡ false → ((front_through l (top_page s) a b s n).start ≡ half w → ⊥) → front_through l (top_page s) a b s n ≡ front_through l (top_of w a b s) a b s n
     front-inside g e = by_start p low (λ h k. rw (top-over w a b s (omega (arith, p.halves)))) (λ h. rw (top-high w a b s (omega (arith, p.halves))))
       where
         low : a < half w → b < half w → front_through l (top_page s) a b s n ≡ front_through l (top_of w a b s) a b s n
@@ -66,6 +74,12 @@ module _ (w s a b : ℕ) (p : PageEnds w s a b) (wide : half w + s ≤ first_hig
             let v : a + count * s ≡ half w → ⊥ = λ q. e (start-below u ∙ q) in
             let t = before-gap h (omega arith) in
             rw (top-low w a b s h k, le-ltb (half w - s) (a + count * s) (omega arith), le-ltb (top_page s) (a + count * s) (omega (arith, p.two, p.halves)))
+
+    -- so a draw up to the topmost page, set by the last low one, is that up to the range's own
+    pub low-half-kept : gap_front w a b s n ≡ false → within_low_half w s (front_through l (top_page s) a b s n) ≡ front_through l (top_of w a b s) a b s n
+    low-half-kept g =
+        let start = (front_through l (top_page s) a b s n).start in
+        by_cases (ℕ_discrete start (half w)) (λ q. rw (eq-eqb start (half w) q) (front-past g q)) (λ q. rw (ne_eqb start (half w) q) (front-inside g q))
 
     -- an end that is left in the high half, is on a page of it
     after-gap : first_high w ≤ b → first_high w < b - count * s + s → count * s ≤ b → first_high w + count * s ≤ b
@@ -94,7 +108,7 @@ module _ (w s a b : ℕ) (p : PageEnds w s a b) (wide : half w + s ≤ first_hig
     end-low : b < half w → (back_through l 0 a b s n).end ≡ first_high w - s → ⊥
     end-low k e = by_cases (dec_lt b (0 + count * s)) (λ h. let u : 0 ≡ first_high w - s = rw (lt-ltb b (0 + count * s) h) at e in omega (arith, p.some, p.room)) (λ h. let u : b - count * s ≡ first_high w - s = rw (le-ltb b (0 + count * s) (omega arith)) at e in omega arith)
 
-    pub back-past : gap_back w a b s n ≡ false → (back_through l 0 a b s n).end ≡ first_high w - s
+    back-past : gap_back w a b s n ≡ false → (back_through l 0 a b s n).end ≡ first_high w - s
         → record { item = get_elem? (reverse l) n; start = first_high w + s; end = first_high w } ≡ back_through l (bottom_of w a b) a b s n
     back-past g e = by_end p (λ k. absurd (end-low k e)) (λ h k. let u = over-back h k g in absurd (omega (arith, sym (end-above (omega arith)) ∙ e, p.some, p.room, p.halves))) high
       where
@@ -104,7 +118,7 @@ module _ (w s a b : ℕ) (p : PageEnds w s a b) (wide : half w + s ≤ first_hig
             let v : a ≡ first_high w = omega (arith, next-within w s a b p l n, high-taken h, p.some, p.room, p.halves) in
             rw (bottom-high w a b h k, lt-ltb b (first_high w + count * s) (omega (arith, p.some, p.room, p.halves)), v)
 
-    pub back-inside : gap_back w a b s n ≡ false → ((back_through l 0 a b s n).end ≡ first_high w - s → ⊥) → back_through l 0 a b s n ≡ back_through l (bottom_of w a b) a b s n
+    back-inside : gap_back w a b s n ≡ false → ((back_through l 0 a b s n).end ≡ first_high w - s → ⊥) → back_through l 0 a b s n ≡ back_through l (bottom_of w a b) a b s n
     back-inside g e = by_end p (λ k. rw (bottom-zero w a b (omega (arith, p.halves)))) (λ h k. rw (bottom-over w a b (omega (arith, p.halves)))) high
       where
         high : first_high w ≤ a → first_high w ≤ b → back_through l 0 a b s n ≡ back_through l (bottom_of w a b) a b s n
@@ -114,6 +128,12 @@ module _ (w s a b : ℕ) (p : PageEnds w s a b) (wide : half w + s ≤ first_hig
             let v : first_high w - s ≤ b - count * s = omega (arith, next-within w s a b p l n) in
             let t = after-gap k (omega (arith, p.some, p.room, p.halves)) f in
             rw (bottom-high w a b h k, le-ltb b (first_high w + count * s) t, le-ltb b (0 + count * s) (omega arith))
+
+    -- and the same from the back
+    pub high-half-kept : gap_back w a b s n ≡ false → within_high_half w s (back_through l 0 a b s n) ≡ back_through l (bottom_of w a b) a b s n
+    high-half-kept g =
+        let end = (back_through l 0 a b s n).end in
+        by_cases (ℕ_discrete end (first_high w - s)) (λ q. rw (eq-eqb end (first_high w - s) q) (back-past g q)) (λ q. rw (ne_eqb end (first_high w - s) q) (back-inside g q))
 
   -- with n = 0, a draw meets the gap exactly where the start left would be the first number past the low half, or the end left the number one page below the high half, and the
   -- other end is in the other half

@@ -30,11 +30,11 @@ module _ (v : Width) (x y : Page) (e : refusal (width_of v) x y ≡ 0) where
   ends = (ranges.accepted v x y e).ends
 
   front-free : InOneHalf w (start x) (start y) → draw.gap_front w (start x) (start y) (bytes x) 0 ≡ false
-  front-free (both_low h k) = kept.front_low w (bytes x) (start x) (start y) 0 (omega (arith, ends.halves))
+  front-free (both_low h k) = kept.front-low w (bytes x) (start x) (start y) 0 (omega (arith, ends.halves))
   front-free (both_high h k) = kept.front-high w (bytes x) (start x) (start y) 0 (omega (arith, ends.halves))
 
   back-free : InOneHalf w (start x) (start y) → draw.gap_back w (start x) (start y) (bytes x) 0 ≡ false
-  back-free (both_low h k) = kept.back_low w (bytes x) (start x) (start y) 0 (omega (arith, ends.halves))
+  back-free (both_low h k) = kept.back-low w (bytes x) (start x) (start y) 0 (omega (arith, ends.halves))
   back-free (both_high h k) = kept.back-high w (bytes x) (start x) (start y) 0 (omega (arith, ends.halves))
 
   again : (d : draw.Draw) → Pages w (bytes x) d → InOneHalf w d.start d.end → (refusal w (page_at x.size d.start) (page_at y.size d.end) ≡ 0) × InOneHalf w d.start d.end

@@ -18,7 +18,7 @@ use Rattle.laws.proofs.Align.{top-whole}
 use Rattle.laws.proofs.Run.{below_none, through-none}
 use Rattle.laws.proofs.Draw.{front-below-start}
 use Rattle.laws.proofs.Gap.{PageEnds, high-whole, front_below, back_below, front-through, back-through}
-use Rattle.laws.proofs.Halves.{by_start, by_end, top-low, top-high, top-over, top_within, bottom-high, bottom-over, bottom-zero}
+use Rattle.laws.proofs.Halves.{by_start, by_end, top-low, top-high, top-over, top-within, bottom-high, bottom-over, bottom-zero}
 use Rattle.laws.proofs.After.{Stepwise, front-below-steps, back-below-steps}
 use Rattle.laws.proofs.Kept as kept
 use Rattle.laws.proofs.PagesLeft as left
@@ -135,7 +135,7 @@ module _ (v : Width) (x y : Page) (e : refusal (width_of v) x y ≡ 0) where
       let a = ranges.accepted v x y e in
       let l = through (start x) (start y) (bytes x) in
       let h = kept.front-through-half w (bytes x) (start x) (start y) a.ends l g in
-      let t = top_within w (bytes x) (start x) (start y) a.ends in
+      let t = top-within w (bytes x) (start x) (start y) a.ends in
       let p = a.ends.some in
       record {
         start-below = omega (arith, left.front-start-top w (bytes x) (start x) (start y) a.ends l 0);
@@ -230,7 +230,7 @@ module _ (v : Width) where
       (λ x y n e g. kept.back-below-gap (width_of v) (bytes x) (start x) (start y) (ranges.accepted v x y e).ends g n)
       (λ x y n g. kept.back-first (width_of v) (bytes x) (start x) (start y) n g)
       none_below
-      (λ x y n p h. kept.back_none (width_of v) (bytes x) (start x) (start y) n p h)
+      (λ x y n p h. kept.back-none (width_of v) (bytes x) (start x) (start y) n p h)
 
   front-inclusive-facts : PageFacts (width_of v) EmptyThrough len_through draw.gap_front (λ z a b n. draw.front_through (pages_through (width_of v) a b z) (draw.top_of (width_of v) a b z) a b z n) (on_front_inclusive (width_of v))
   front-inclusive-facts =
@@ -252,7 +252,7 @@ module _ (v : Width) where
       (λ x y n e g. kept.back-through-gap (width_of v) (bytes x) (start x) (start y) (ranges.accepted v x y e).ends (through (start x) (start y) (bytes x)) g n)
       (λ x y n g. kept.back-first (width_of v) (bytes x) (start x) (start y) n g)
       none-through
-      (λ x y n p h. kept.back_none (width_of v) (bytes x) (start x) (start y) n p (le_of_lt h))
+      (λ x y n p h. kept.back-none (width_of v) (bytes x) (start x) (start y) n p (le_of_lt h))
 
 -- ranges by their ends
 ends : Ends {P = Page} made (λ r. r.start) (λ r. r.end)

@@ -12,7 +12,7 @@ use Rattle.laws.specs.Run.{len_through, through}
 use Rattle.laws.specs.Draw.{gap_front, gap_back}
 use Rattle.laws.proofs.Run.{run_at, back_at}
 use Rattle.laws.proofs.Gap.{PageEnds}
-use Rattle.laws.proofs.Kept.{front_low, back-high}
+use Rattle.laws.proofs.Kept.{front-low, back-high}
 use Rattle.laws.proofs.Halves.{top-low, bottom-high}
 use Rattle.laws.proofs.PagesLeft.{front-at-top, back-at-bottom}
 use Rattle.range.specs.declared.range_inclusive.RangeInclusive.{RangeInclusive}
@@ -56,7 +56,7 @@ module _ (v : Width) (r : RangeInclusive Page) (n : ℕ) where
   ends h = (accepted v r.start r.end h.given).ends
 
   no-front-gap : EndsLowHalf w r → gap_front w a b z n ≡ false
-  no-front-gap h = let p = ends h in let l = h.last in front_low w z a b n (omega (arith, p.some, p.halves))
+  no-front-gap h = let p = ends h in let l = h.last in front-low w z a b n (omega (arith, p.some, p.halves))
 
   high-ends : StartsHighHalf w r → PageEnds w z a b
   high-ends h = (accepted v r.start r.end h.given).ends

@@ -3,10 +3,10 @@
 // are set by the last page of its own.
 ghost use Rattle.std.specs.Prelude.{◌≡◌};
 ghost use Rattle.laws.specs.Draw.{top_page};
+ghost use Rattle.laws.proofs.Within.{within_low_half, within_high_half};
 ghost use Rattle.table.specs.Level.{bytes_of};
 ghost use Rattle.draw.specs.Draws.{draw_of};
 ghost use Rattle.addr.specs.Widths.{width_of};
-ghost use Rattle.page_draw.specs.Draws.{within_low_half, within_high_half};
 
 use addr::Width;
 use draw::Draw;

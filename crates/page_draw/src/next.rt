@@ -1,5 +1,6 @@
-// Draws of the first page or of the last: those with n = 0. Such a draw meets the gap where the range left would start or end in it; of an inclusive range, if
-// moreover the other end is in the other half. Each has its own draw and its own test of the gap: a function that took both would have to take their contracts too, and be no plainer.
+// Draws of the first page or of the last: those with n = 0. Such a draw meets the gap where the range left would
+// start or end in it; of an inclusive range, if moreover the other end is in the other half. Each has its own draw
+// and its own test of the gap: a function that took both would have to take their contracts too, and be no plainer.
 ghost use Rattle.std.specs.Prelude.{◌≡◌};
 ghost use Rattle.answer.specs.Answers.{outcome_of};
 ghost use Rattle.laws.specs.Kind.{guarded};
