@@ -1,8 +1,8 @@
-// Virtual addresses. `Width` has the operations for either width; the source's names are at 48 bits.
+// Virtual addresses. `Width` has the operations for either width; those of `VirtAddr`, the source's, are at 48 bits.
 ghost use Rattle.std.specs.Prelude.{◌≡◌};
 ghost use Rattle.answer.specs.Answers.{u64_of, bool_of, steps_of};
 ghost use Rattle.laws.specs.Width.{sign_extend};
-ghost use Rattle.laws.specs.Address.{virt, address, is_null, is_aligned, plus, minus, distance, align_down_virt, align_up_virt, forward_from, backward_from, steps_between, page_offset, table_index};
+ghost use Rattle.laws.specs.Address.{virt, address, is_null, is_aligned, plus, minus, plus_signed, distance, align_down_virt, align_up_virt, forward_from, backward_from, steps_between, page_offset, table_index};
 ghost use Rattle.table.specs.Answers.{small_of};
 ghost use Rattle.table.specs.Level.{level_of};
 ghost use Rattle.addr.specs.Answers.{virt_of, virt_step_of};
@@ -78,6 +78,14 @@ impl Width {
         ensures { virt_of result ≡ minus (virt (width_of self)) addr.0 count }
     {
         self.minus(addr.0, count).map(VirtAddr)
+    }
+
+    // The exact sum of address and displacement, for references relative to the instruction pointer; 5 below zero
+    // or beyond 64 bits, 6 if it isn't canonical.
+    pub fn add_signed(self, addr: VirtAddr, displacement: i32) -> Result<VirtAddr, Refusal>
+        ensures { virt_of result ≡ plus_signed (virt (width_of self)) addr.0 displacement }
+    {
+        self.plus_signed(addr.0, displacement).map(VirtAddr)
     }
 
     // How far addr is above other, by their numbers, so with the gap; 5 if it is below.
@@ -216,6 +224,13 @@ impl VirtAddr {
         ensures { virt_of result ≡ minus (virt 48) self.0 count }
     {
         Width::Bits48.sub(self, count)
+    }
+
+    // Not in the source, whose counts have no sign; named after std's `checked_add_signed`.
+    pub fn add_signed(self, displacement: i32) -> Result<VirtAddr, Refusal>
+        ensures { virt_of result ≡ plus_signed (virt 48) self.0 displacement }
+    {
+        Width::Bits48.add_signed(self, displacement)
     }
 
     // The source's `-` with an address.

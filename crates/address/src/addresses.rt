@@ -3,7 +3,7 @@ ghost use Rattle.std.specs.Prelude.{◌≡◌, ◌≢◌};
 ghost use Rattle.answer.specs.Outcome.{gives, unless};
 ghost use Rattle.answer.specs.Answers.{u64_of, bool_of, number_of};
 ghost use Rattle.laws.specs.Address as laws;
-ghost use Rattle.laws.specs.Address.{address, resulting, is_null, is_aligned, plus, minus, distance};
+ghost use Rattle.laws.specs.Address.{address, resulting, is_null, is_aligned, plus, minus, plus_signed, distance};
 
 use align::is_aligned;
 use answer::Refusal;
@@ -86,6 +86,16 @@ pub trait Addresses: Copy {
             .checked_sub(count)
             .ok_or(Refusal::Overflow)?;
         self.outcome(difference)
+    }
+
+    // The exact sum of address and displacement; 5 below zero or beyond 64 bits. In 128 bits it is one addition,
+    // where `checked_add_signed` branches on the sign.
+    final fn plus_signed(self, addr: u64, displacement: i32) -> Result<u64, Refusal>
+        ensures { u64_of result ≡ plus_signed (space self) addr displacement }
+    {
+        let sum = i128::from(self.argument(addr)?) + i128::from(displacement);
+        let sum = u64::try_from(sum).map_err(|_| Refusal::Overflow)?;
+        self.outcome(sum)
     }
 
     // How far addr is above other, by their numbers; 5 if it is below.

@@ -59,4 +59,17 @@ table =
       k-nth-1 = refl;
       k-back-0 = refl;
       k-back-1 = refl;
+      displaced-0 = refl;
+      displaced-2-gib = refl;
+      displaced-last-low = refl;
+      displaced-first-high = refl;
+      displaced-last = refl;
+      displaced-0-57 = refl;
+      displaced-2-gib-57 = refl;
+      displaced-last-low-57 = refl;
+      displaced-first-high-57 = refl;
+      displaced-last-57 = refl;
+      displaced-gap = refl;
+      displaced-gap-57 = refl;
+      displaced-low-57 = refl;
     }

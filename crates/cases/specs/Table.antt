@@ -1,9 +1,10 @@
--- The table of document 01, "Checked by proof", as document 02 amends it, as one statement about the definitions. What the functions answer follows from their contracts, which give
--- each answer by the same definitions.
-use Rattle.std.specs.Prelude.{ℕ, ◌-◌, ◌^◌, ◌≡◌}
-use Rattle.answer.specs.Outcome.{gives, none, refuses}
+-- The table of document 01, "Checked by proof", as document 02 amends it, and what its requests name beside that, as one statement about the definitions. What the functions answer
+-- follows from their contracts, which give each answer by the same definitions.
+use Rattle.std.specs.Prelude.{ℕ, ◌-◌, ◌^◌, ◌≡◌, List, [], ◌∷◌, map, pos, negsuc}
+use Rattle.answer.specs.Outcome.{Outcome, gives, none, refuses}
 use Rattle.laws.specs.Width.{sign_extend}
-use Rattle.laws.specs.Address.{virt, plus, align_up_virt, forward_from, steps_between, table_index, page_offset}
+use Rattle.laws.specs.Address.{virt, plus, plus_signed, align_up_virt, forward_from, steps_between, table_index, page_offset}
+use Rattle.laws.specs.Displacement.{least}
 use Rattle.table.specs.declared.size.PageSize.TheVariants.{Size4KiB, Size2MiB}
 use Rattle.laws.specs.Item.{item}
 use Rattle.laws.specs.Range.{count_below, count_through}
@@ -27,6 +28,10 @@ inclusive a b = record { start = page a; end = page b }
 -- an inclusive range of 2 MiB pages
 abbrev pub large : ℕ → ℕ → RangeInclusive Page
 large a b = record { start = page_at Size2MiB a; end = page_at Size2MiB b }
+
+-- what the displacements −2^31, −1, 0 and 2^31 − 1 give, from an address of a width
+abbrev pub displacements_from : ℕ → ℕ → List (Outcome ℕ)
+displacements_from w a = map (plus_signed (virt w) a) (least ∷ negsuc 0 ∷ pos 0 ∷ pos (2 ^ 31 - 1) ∷ [])
 
 pub record Table : Type 0 where
   -- A truncate 8000_0000_0000: ffff_8000_0000_0000
@@ -102,3 +107,19 @@ pub record Table : Type 0 where
       ≡ record { answer = gives (item 0xffff_8000_0000_0000 0x1000); range = exclusive 0x7fff_ffff_e000 0xffff_8000_0000_0000 }
   pub k-back-1 : nth_back_of 48 (exclusive 0x7fff_ffff_e000 0xffff_8000_0000_1000) 1
       ≡ record { answer = refuses 10; range = exclusive 0x7fff_ffff_e000 0xffff_8000_0000_1000 }
+  -- request Two: "also at −2^31, −1, 0 and 2^31 − 1", from 0, 2^31, the last low, the first high and the last address
+  pub displaced-0 : displacements_from 48 0 ≡ refuses 5 ∷ refuses 5 ∷ gives 0 ∷ gives 0x7fff_ffff ∷ []
+  pub displaced-2-gib : displacements_from 48 (2 ^ 31) ≡ gives 0 ∷ gives 0x7fff_ffff ∷ gives 0x8000_0000 ∷ gives 0xffff_ffff ∷ []
+  pub displaced-last-low : displacements_from 48 0x7fff_ffff_ffff ≡ gives 0x7fff_7fff_ffff ∷ gives 0x7fff_ffff_fffe ∷ gives 0x7fff_ffff_ffff ∷ refuses 6 ∷ []
+  pub displaced-first-high : displacements_from 48 0xffff_8000_0000_0000 ≡ refuses 6 ∷ refuses 6 ∷ gives 0xffff_8000_0000_0000 ∷ gives 0xffff_8000_7fff_ffff ∷ []
+  pub displaced-last : displacements_from 48 0xffff_ffff_ffff_ffff ≡ gives 0xffff_ffff_7fff_ffff ∷ gives 0xffff_ffff_ffff_fffe ∷ gives 0xffff_ffff_ffff_ffff ∷ refuses 5 ∷ []
+  -- the same at 57 bits
+  pub displaced-0-57 : displacements_from 57 0 ≡ displacements_from 48 0
+  pub displaced-2-gib-57 : displacements_from 57 (2 ^ 31) ≡ displacements_from 48 (2 ^ 31)
+  pub displaced-last-low-57 : displacements_from 57 0xff_ffff_ffff_ffff ≡ gives 0xff_ffff_7fff_ffff ∷ gives 0xff_ffff_ffff_fffe ∷ gives 0xff_ffff_ffff_ffff ∷ refuses 6 ∷ []
+  pub displaced-first-high-57 : displacements_from 57 0xff00_0000_0000_0000 ≡ refuses 6 ∷ refuses 6 ∷ gives 0xff00_0000_0000_0000 ∷ gives 0xff00_0000_7fff_ffff ∷ []
+  pub displaced-last-57 : displacements_from 57 0xffff_ffff_ffff_ffff ≡ displacements_from 48 0xffff_ffff_ffff_ffff
+  -- a number that is no address is refused 1, even where −1 would lead to one: at 57 bits the first is an address
+  pub displaced-gap : displacements_from 48 0x8000_0000_0000 ≡ refuses 1 ∷ refuses 1 ∷ refuses 1 ∷ refuses 1 ∷ []
+  pub displaced-gap-57 : displacements_from 57 0x100_0000_0000_0000 ≡ refuses 1 ∷ refuses 1 ∷ refuses 1 ∷ refuses 1 ∷ []
+  pub displaced-low-57 : displacements_from 57 0x8000_0000_0000 ≡ gives 0x7fff_8000_0000 ∷ gives 0x7fff_ffff_ffff ∷ gives 0x8000_0000_0000 ∷ gives 0x8000_7fff_ffff ∷ []

@@ -2,6 +2,7 @@ pub mod Bits
 pub mod Cases
 pub mod Width
 pub mod Steps
+pub mod Displacement
 pub mod Align
 pub mod Index
 pub mod Number

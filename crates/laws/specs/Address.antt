@@ -1,6 +1,6 @@
 -- What the calls on addresses answer. The sentences are those of document 01, "Addresses".
-use Rattle.std.specs.Prelude.{ℕ, ◌+◌, ◌-◌, ◌^◌, Bool, ltb, leb, eqb}
-use Rattle.answer.specs.Outcome.{Outcome, gives, unless, and_then}
+use Rattle.std.specs.Prelude.{ℕ, ◌+◌, ◌-◌, ◌^◌, Bool, ltb, leb, eqb, ℤ, pos, negsuc, ◌+ℤ◌}
+use Rattle.answer.specs.Outcome.{Outcome, gives, refuses, unless, and_then}
 use Rattle.answer.specs.Refusal.{not_canonical, not_physical, not_power_of_two, overflow, result_not_canonical, result_not_physical}
 use Rattle.laws.specs.Width.{canonical, sign_extend}
 use Rattle.laws.specs.Steps.{forward, backward, steps}
@@ -56,6 +56,16 @@ plus s a n = given s a (sum s a n)
 
 abbrev pub minus : Addresses → ℕ → ℕ → Outcome ℕ
 minus s a n = given s a (difference s a n)
+
+-- an integer that a call comes to, where `negsuc n` is −(n + 1): "5 if the sum goes below zero or past 64 bits, then 6 if it isn't canonical. Otherwise the answer is the exact
+-- whole-number sum" (document 02, request Two)
+abbrev pub resulting_integer : Addresses → ℤ → Outcome ℕ
+resulting_integer s (pos n) = unless overflow (ltb n (2 ^ 64)) (resulting s n)
+resulting_integer s (negsuc n) = refuses overflow
+
+-- "The displacement is a signed 32-bit number, added to a canonical address" (document 02, request Two): the sum is one of integers
+abbrev pub plus_signed : Addresses → ℕ → ℤ → Outcome ℕ
+plus_signed s a d = given s a (resulting_integer s (pos a +ℤ d))
 
 -- "Address minus address: 5 below zero."
 abbrev pub distance : Addresses → ℕ → ℕ → Outcome ℕ

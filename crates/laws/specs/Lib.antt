@@ -8,6 +8,7 @@ pub mod Draw
 pub mod Drawing
 pub mod Kind
 pub mod Address
+pub mod Displacement
 pub mod Item
 pub mod Range
 pub mod Before
