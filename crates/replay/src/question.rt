@@ -53,6 +53,11 @@ pub(crate) fn words(operation: u64) -> usize
     }
 }
 
+// The displacement that a number of the list stands for: its low 32 bits, with their sign.
+fn displacement(number: u64) -> i32 {
+    ((number & 0xffff_ffff) as u32).cast_signed()
+}
+
 impl Question<'_> {
     // The status that the call answers; its words are in out then.
     pub(crate) fn ask(self, out: &mut [u64]) -> u8 {
@@ -90,6 +95,7 @@ impl Question<'_> {
             (0x1c, &[a, b]) => virt_addr::wuohtan_virt_addr_forward_checked_u64(a, b, out),
             (0x1d, &[a, b]) => virt_addr::wuohtan_virt_addr_backward_checked_u64(a, b, out),
             (0x1e, &[a, b]) => virt_addr::wuohtan_virt_addr_steps_between_u64(a, b, out),
+            (0x1f, &[a, b]) => virt_addr::wuohtan_virt_addr_add_signed(a, displacement(b), out),
             _ => UNKNOWN,
         }
     }

@@ -2,7 +2,7 @@
 ghost use Rattle.std.specs.Prelude.{◌≡◌, [], ◌∷◌};
 ghost use Rattle.answer.specs.Outcome.{gives};
 ghost use Rattle.laws.specs.Width.{sign_extend};
-ghost use Rattle.laws.specs.Address.{virt, address, is_null, is_aligned, plus, minus, distance, align_down_virt, align_up_virt, forward_from, backward_from, steps_between, page_offset, table_index};
+ghost use Rattle.laws.specs.Address.{virt, address, is_null, is_aligned, plus, minus, plus_signed, distance, align_down_virt, align_up_virt, forward_from, backward_from, steps_between, page_offset, table_index};
 ghost use Rattle.status.specs.Convention.{left, leaves, word, truth};
 ghost use Rattle.convention.specs.Choice.{at_level};
 
@@ -81,6 +81,13 @@ pub extern "C" fn wuohtan_virt_addr_sub(addr: u64, count: u64, out: &mut [u64]) 
     ensures { left result out.new ≡ leaves (word (minus (virt 48) addr count)) out.old }
 {
     wuohtan::virt_addr::wuohtan_virt_addr_sub(addr, count, out)
+}
+
+#[unsafe(no_mangle)]
+pub extern "C" fn wuohtan_virt_addr_add_signed(addr: u64, displacement: i32, out: &mut [u64]) -> u8
+    ensures { left result out.new ≡ leaves (word (plus_signed (virt 48) addr displacement)) out.old }
+{
+    wuohtan::virt_addr::wuohtan_virt_addr_add_signed(addr, displacement, out)
 }
 
 #[unsafe(no_mangle)]

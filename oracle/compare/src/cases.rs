@@ -1,8 +1,11 @@
-//! The cases that document 01 writes out, as document 02 has amended them, for the operations that
-//! are here. They hold the model to the documents, before it is held against the Rust and the port.
+//! The cases that document 01 writes out, as document 02 has amended them, and those that document 02
+//! names beside them, for the operations that are here. They hold the model to the documents, before it
+//! is held against the Rust and the port.
 
 use crate::answer::Answer;
-use crate::answer::{ANSWERED, DRAW_MEETS_GAP, NONE, PFN_TOO_LARGE, RESULT_NOT_CANONICAL};
+use crate::answer::{
+    ANSWERED, DRAW_MEETS_GAP, NONE, NOT_CANONICAL, OVERFLOW, PFN_TOO_LARGE, RESULT_NOT_CANONICAL,
+};
 use crate::operation::Operation;
 
 /// The case, the operation, its arguments and the answer.
@@ -33,6 +36,11 @@ const SIZE_4KIB: u64 = 1 << 12;
 const SIZE_2MIB: u64 = 1 << 21;
 const SIZE_1GIB: u64 = 1 << 30;
 
+const LEAST: u64 = -(1i64 << 31) as u64;
+const MINUS_1: u64 = -1i64 as u64;
+const GREATEST: u64 = (1 << 31) - 1;
+
+const ADD_SIGNED: &str = "virt_addr_add_signed";
 const FORWARD: &str = "virt_addr_forward_checked_u64";
 const STEPS: &str = "virt_addr_steps_between_u64";
 const ALIGN_UP: &str = "virt_addr_align_up";
@@ -146,6 +154,135 @@ pub const CASES: &[Case] = &[
         "page_range_nth_back",
         &with(IN_CASE_K, 1),
         DRAW_MEETS_GAP,
+    ),
+    ends("request Two", ADD_SIGNED, &[0, LEAST], OVERFLOW),
+    ends("request Two", ADD_SIGNED, &[0, MINUS_1], OVERFLOW),
+    gives("request Two", ADD_SIGNED, &[0, 0], &[0]),
+    gives("request Two", ADD_SIGNED, &[0, GREATEST], &[0x7fff_ffff]),
+    gives("request Two", ADD_SIGNED, &[1 << 31, LEAST], &[0]),
+    gives(
+        "request Two",
+        ADD_SIGNED,
+        &[1 << 31, MINUS_1],
+        &[0x7fff_ffff],
+    ),
+    gives("request Two", ADD_SIGNED, &[1 << 31, 0], &[0x8000_0000]),
+    gives(
+        "request Two",
+        ADD_SIGNED,
+        &[1 << 31, GREATEST],
+        &[0xffff_ffff],
+    ),
+    gives(
+        "request Two",
+        ADD_SIGNED,
+        &[LAST_LOW, LEAST],
+        &[0x7fff_7fff_ffff],
+    ),
+    gives(
+        "request Two",
+        ADD_SIGNED,
+        &[LAST_LOW, MINUS_1],
+        &[0x7fff_ffff_fffe],
+    ),
+    gives(
+        "request Two",
+        ADD_SIGNED,
+        &[LAST_LOW, 0],
+        &[0x7fff_ffff_ffff],
+    ),
+    ends(
+        "request Two",
+        ADD_SIGNED,
+        &[LAST_LOW, GREATEST],
+        RESULT_NOT_CANONICAL,
+    ),
+    ends(
+        "request Two",
+        ADD_SIGNED,
+        &[FIRST_HIGH, LEAST],
+        RESULT_NOT_CANONICAL,
+    ),
+    ends(
+        "request Two",
+        ADD_SIGNED,
+        &[FIRST_HIGH, MINUS_1],
+        RESULT_NOT_CANONICAL,
+    ),
+    gives(
+        "request Two",
+        ADD_SIGNED,
+        &[FIRST_HIGH, 0],
+        &[0xffff_8000_0000_0000],
+    ),
+    gives(
+        "request Two",
+        ADD_SIGNED,
+        &[FIRST_HIGH, GREATEST],
+        &[0xffff_8000_7fff_ffff],
+    ),
+    gives(
+        "request Two",
+        ADD_SIGNED,
+        &[LAST, LEAST],
+        &[0xffff_ffff_7fff_ffff],
+    ),
+    gives(
+        "request Two",
+        ADD_SIGNED,
+        &[LAST, MINUS_1],
+        &[0xffff_ffff_ffff_fffe],
+    ),
+    gives(
+        "request Two",
+        ADD_SIGNED,
+        &[LAST, 0],
+        &[0xffff_ffff_ffff_ffff],
+    ),
+    ends("request Two", ADD_SIGNED, &[LAST, GREATEST], OVERFLOW),
+    ends(
+        "request Two",
+        ADD_SIGNED,
+        &[1 << 47, MINUS_1],
+        NOT_CANONICAL,
+    ),
+    // The ends of displacements that just reach an end of the halves, and that just miss it.
+    ends("request Two", ADD_SIGNED, &[(1 << 31) - 1, LEAST], OVERFLOW),
+    gives(
+        "request Two",
+        ADD_SIGNED,
+        &[LAST - GREATEST, GREATEST],
+        &[LAST],
+    ),
+    ends(
+        "request Two",
+        ADD_SIGNED,
+        &[LAST - GREATEST + 1, GREATEST],
+        OVERFLOW,
+    ),
+    gives(
+        "request Two",
+        ADD_SIGNED,
+        &[LAST_LOW - GREATEST, GREATEST],
+        &[LAST_LOW],
+    ),
+    ends(
+        "request Two",
+        ADD_SIGNED,
+        &[LAST_LOW - GREATEST + 1, GREATEST],
+        RESULT_NOT_CANONICAL,
+    ),
+    gives(
+        "request Two",
+        ADD_SIGNED,
+        &[FIRST_HIGH + (1 << 31), LEAST],
+        &[FIRST_HIGH],
+    ),
+    ends(
+        "request Two",
+        ADD_SIGNED,
+        &[FIRST_HIGH + (1 << 31) - 1, LEAST],
+        RESULT_NOT_CANONICAL,
     ),
 ];
 

@@ -15,6 +15,9 @@ pub enum Kind {
     Alignment,
     /// A number that is added, subtracted or stepped by.
     Count,
+    /// A displacement: the low 32 bits of the number, with their sign. The bits above them reach the port,
+    /// as the compiler has it, in the register of its int32_t.
+    Displacement,
     /// A number of pages or frames, of the size before it.
     Items,
     /// An index into a page table.
@@ -51,6 +54,7 @@ impl Kind {
             | Kind::Physical
             | Kind::Alignment
             | Kind::Count
+            | Kind::Displacement
             | Kind::Items
             | Kind::Index
             | Kind::Offset

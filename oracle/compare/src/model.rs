@@ -64,6 +64,7 @@ fn refused(kind: Kind, words: &[u64]) -> Option<u8> {
         | Kind::Small
         | Kind::Alignment
         | Kind::Count
+        | Kind::Displacement
         | Kind::Items
         | Kind::Level
         | Kind::FrameNumber

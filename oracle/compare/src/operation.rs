@@ -122,6 +122,16 @@ macro_rules! function {
 /// The port's function of this name.
 #[macro_export]
 macro_rules! port {
+    // C takes a displacement as an int32_t.
+    ($port:ident, ($addr:ident: $kind:ident, $displacement:ident: Displacement)) => {{
+        extern "C" {
+            fn $port($addr: u64, $displacement: i32, out: *mut u64, len: usize) -> u8;
+        }
+        unsafe extern "C" fn port($addr: u64, $displacement: u64, out: *mut u64, len: usize) -> u8 {
+            $port($addr, $displacement as i32, out, len)
+        }
+        $crate::function!(port, ($addr: $kind, $displacement: Displacement))
+    }};
     ($port:ident, ($($($word:ident)+: $kind:ident),*)) => {{
         extern "C" {
             fn $port($($($word: u64,)+)* out: *mut u64, len: usize) -> u8;

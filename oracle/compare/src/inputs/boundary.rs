@@ -65,6 +65,7 @@ pub const LEVELS: [u64; 16] = [
 pub fn of(kind: Kind) -> Vec<Vec<u64>> {
     let mut values = match kind {
         Kind::Number | Kind::Virtual | Kind::Physical | Kind::Count => each(numbers()),
+        Kind::Displacement => each(displacements()),
         Kind::Small => each(small_numbers()),
         Kind::Alignment => each(alignments()),
         Kind::Items => each(counts()),
@@ -123,6 +124,20 @@ fn alignments() -> Vec<u64> {
     let around = |power: u64| [power.wrapping_sub(1), power, power + 1];
     let mut values: Vec<_> = powers_of_two().flat_map(around).collect();
     values.extend([3 << 12, 3 << 47, 0xffff_8000_0000_0000, u64::MAX]);
+    values
+}
+
+/// Powers of two and their neighbours with either sign, the ends of an i32, and numbers of more bits.
+fn displacements() -> Vec<u64> {
+    let powers = (0..31).map(|n| 1i32 << n);
+    let around = |power: i32| [power - 1, power, power + 1];
+    let sizes: Vec<_> = powers.flat_map(around).chain([i32::MAX]).collect();
+    let opposites = sizes.iter().map(|size| -size);
+    let all = sizes.iter().copied().chain(opposites).chain([i32::MIN]);
+    let mut values: Vec<_> = all.map(|displacement| displacement as u64).collect();
+    // Negative ones with the bits above clear, and numbers of which only the low bits count.
+    values.extend([1 << 31, (1 << 31) + 1, (1 << 32) - 4096, (1 << 32) - 1]);
+    values.extend([1 << 32, (1 << 32) + 1, (1 << 63) + 4096, u64::MAX << 33]);
     values
 }
 

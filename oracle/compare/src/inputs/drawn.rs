@@ -54,6 +54,7 @@ fn of(kind: Kind, earlier: &[u64], generator: &mut Generator) -> u64 {
             1 => distance_to_place(earlier, generator),
             _ => number(generator),
         },
+        Kind::Displacement => displacement(earlier, generator),
         Kind::Items => items(earlier, generator),
         Kind::Draws => ranges::draw(earlier, generator, number),
         Kind::Index => mostly_below(512, generator),
@@ -205,6 +206,24 @@ fn distance_to_place(earlier: &[u64], generator: &mut Generator) -> u64 {
     match generator.below(2) {
         0 => distance,
         _ => distance % (1 << 48),
+    }
+}
+
+/// A displacement of any width up to 32 bits, at an end of these, or one that leads from the address
+/// before it to near a boundary, if 32 bits hold it; seldom with other bits above.
+fn displacement(earlier: &[u64], generator: &mut Generator) -> u64 {
+    let of_some_width = generator.number() as i32 >> generator.below(32);
+    let displacement = match (generator.below(8), earlier) {
+        (0, _) => *generator.pick(&[i32::MIN, i32::MIN + 1, -1, 0, 1, i32::MAX - 1, i32::MAX]),
+        (1 | 2, &[from, ..]) => {
+            let place = near(*generator.pick(&PLACES), generator);
+            i32::try_from(place.wrapping_sub(from) as i64).unwrap_or(of_some_width)
+        }
+        _ => of_some_width,
+    };
+    match generator.below(16) {
+        0 => u64::from(displacement as u32) | generator.number() << 32,
+        _ => displacement as u64,
     }
 }
 

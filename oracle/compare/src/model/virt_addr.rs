@@ -97,6 +97,25 @@ fn result(number: u128) -> Answer {
     }
 }
 
+/// The exact sum of an address and a displacement.
+pub fn add_signed(addr: u128, displacement: u128) -> Answer {
+    let sum = addr as i128 + signed(displacement);
+    match u128::try_from(sum) {
+        Ok(sum) if sum < power(64) => result(sum),
+        _ => Answer::refused(OVERFLOW),
+    }
+}
+
+/// The signed number that the low 32 bits say.
+fn signed(number: u128) -> i128 {
+    let low = number % power(32);
+    if low < power(31) {
+        low as i128
+    } else {
+        low as i128 - power(32) as i128
+    }
+}
+
 pub fn sub_addr(addr: u128, other: u128) -> Answer {
     if addr < other {
         Answer::refused(OVERFLOW)

@@ -10,7 +10,7 @@ use x86_64::opened::{
 };
 use x86_64::{align_down, align_up, PhysAddr, VirtAddr};
 
-use super::{add_assign, sub_assign};
+use super::{add_assign, add_signed, sub_assign};
 use crate::model::{numbers, phys_addr, virt_addr};
 use crate::operation;
 use crate::operation::Operation;
@@ -121,6 +121,12 @@ pub const VIRT_ADDR: &[Operation] = &[
         port wuohtan_virt_addr_steps_between_u64,
         rust [virt_addr_steps_between_u64, step_steps_between::<VirtAddr>],
         model virt_addr::steps_between_u64
+    },
+    operation! {
+        0x1f virt_addr_add_signed(addr: Virtual, displacement: Displacement)
+        port wuohtan_virt_addr_add_signed,
+        rust [add_signed],
+        model virt_addr::add_signed
     },
 ];
 

@@ -46,6 +46,14 @@ impl Argument<1> for usize {
     }
 }
 
+/// A displacement, by its low 32 bits.
+impl Argument<1> for i32 {
+    #[inline]
+    fn made([number]: [u64; 1]) -> Result<i32, Unasked> {
+        Ok(number as i32)
+    }
+}
+
 impl Argument<1> for u16 {
     #[inline]
     fn made([number]: [u64; 1]) -> Result<u16, Unasked> {
