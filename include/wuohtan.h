@@ -62,7 +62,7 @@ uint8_t wuohtan_virt_addr_is_aligned(uint64_t addr, uint64_t align, uint64_t *ou
 /* addr + count and addr - count */
 uint8_t wuohtan_virt_addr_add(uint64_t addr, uint64_t count, uint64_t *out, size_t len);
 uint8_t wuohtan_virt_addr_sub(uint64_t addr, uint64_t count, uint64_t *out, size_t len);
-/* addr + displacement, forward or back, exactly: WUOHTAN_OVERFLOW where a processor goes round at 2^64 */
+/* addr + displacement, exactly: WUOHTAN_OVERFLOW below zero and at 2^64, where a processor wraps */
 uint8_t wuohtan_virt_addr_add_signed(uint64_t addr, int32_t displacement, uint64_t *out, size_t len);
 /* addr - other, both addresses */
 uint8_t wuohtan_virt_addr_sub_addr(uint64_t addr, uint64_t other, uint64_t *out, size_t len);

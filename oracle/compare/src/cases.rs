@@ -155,135 +155,35 @@ pub const CASES: &[Case] = &[
         &with(IN_CASE_K, 1),
         DRAW_MEETS_GAP,
     ),
-    ends("request Two", ADD_SIGNED, &[0, LEAST], OVERFLOW),
-    ends("request Two", ADD_SIGNED, &[0, MINUS_1], OVERFLOW),
-    gives("request Two", ADD_SIGNED, &[0, 0], &[0]),
-    gives("request Two", ADD_SIGNED, &[0, GREATEST], &[0x7fff_ffff]),
-    gives("request Two", ADD_SIGNED, &[1 << 31, LEAST], &[0]),
-    gives(
-        "request Two",
-        ADD_SIGNED,
-        &[1 << 31, MINUS_1],
-        &[0x7fff_ffff],
-    ),
-    gives("request Two", ADD_SIGNED, &[1 << 31, 0], &[0x8000_0000]),
-    gives(
-        "request Two",
-        ADD_SIGNED,
-        &[1 << 31, GREATEST],
-        &[0xffff_ffff],
-    ),
-    gives(
-        "request Two",
-        ADD_SIGNED,
-        &[LAST_LOW, LEAST],
-        &[0x7fff_7fff_ffff],
-    ),
-    gives(
-        "request Two",
-        ADD_SIGNED,
-        &[LAST_LOW, MINUS_1],
-        &[0x7fff_ffff_fffe],
-    ),
-    gives(
-        "request Two",
-        ADD_SIGNED,
-        &[LAST_LOW, 0],
-        &[0x7fff_ffff_ffff],
-    ),
-    ends(
-        "request Two",
-        ADD_SIGNED,
-        &[LAST_LOW, GREATEST],
-        RESULT_NOT_CANONICAL,
-    ),
-    ends(
-        "request Two",
-        ADD_SIGNED,
-        &[FIRST_HIGH, LEAST],
-        RESULT_NOT_CANONICAL,
-    ),
-    ends(
-        "request Two",
-        ADD_SIGNED,
-        &[FIRST_HIGH, MINUS_1],
-        RESULT_NOT_CANONICAL,
-    ),
-    gives(
-        "request Two",
-        ADD_SIGNED,
-        &[FIRST_HIGH, 0],
-        &[0xffff_8000_0000_0000],
-    ),
-    gives(
-        "request Two",
-        ADD_SIGNED,
-        &[FIRST_HIGH, GREATEST],
-        &[0xffff_8000_7fff_ffff],
-    ),
-    gives(
-        "request Two",
-        ADD_SIGNED,
-        &[LAST, LEAST],
-        &[0xffff_ffff_7fff_ffff],
-    ),
-    gives(
-        "request Two",
-        ADD_SIGNED,
-        &[LAST, MINUS_1],
-        &[0xffff_ffff_ffff_fffe],
-    ),
-    gives(
-        "request Two",
-        ADD_SIGNED,
-        &[LAST, 0],
-        &[0xffff_ffff_ffff_ffff],
-    ),
-    ends("request Two", ADD_SIGNED, &[LAST, GREATEST], OVERFLOW),
-    ends(
-        "request Two",
-        ADD_SIGNED,
-        &[1 << 47, MINUS_1],
-        NOT_CANONICAL,
-    ),
+    not_displaced(&[0, LEAST], OVERFLOW),
+    not_displaced(&[0, MINUS_1], OVERFLOW),
+    displaced(&[0, 0], &[0]),
+    displaced(&[0, GREATEST], &[0x7fff_ffff]),
+    displaced(&[1 << 31, LEAST], &[0]),
+    displaced(&[1 << 31, MINUS_1], &[0x7fff_ffff]),
+    displaced(&[1 << 31, 0], &[0x8000_0000]),
+    displaced(&[1 << 31, GREATEST], &[0xffff_ffff]),
+    displaced(&[LAST_LOW, LEAST], &[0x7fff_7fff_ffff]),
+    displaced(&[LAST_LOW, MINUS_1], &[0x7fff_ffff_fffe]),
+    displaced(&[LAST_LOW, 0], &[0x7fff_ffff_ffff]),
+    not_displaced(&[LAST_LOW, GREATEST], RESULT_NOT_CANONICAL),
+    not_displaced(&[FIRST_HIGH, LEAST], RESULT_NOT_CANONICAL),
+    not_displaced(&[FIRST_HIGH, MINUS_1], RESULT_NOT_CANONICAL),
+    displaced(&[FIRST_HIGH, 0], &[0xffff_8000_0000_0000]),
+    displaced(&[FIRST_HIGH, GREATEST], &[0xffff_8000_7fff_ffff]),
+    displaced(&[LAST, LEAST], &[0xffff_ffff_7fff_ffff]),
+    displaced(&[LAST, MINUS_1], &[0xffff_ffff_ffff_fffe]),
+    displaced(&[LAST, 0], &[0xffff_ffff_ffff_ffff]),
+    not_displaced(&[LAST, GREATEST], OVERFLOW),
+    not_displaced(&[1 << 47, MINUS_1], NOT_CANONICAL),
     // The ends of displacements that just reach an end of the halves, and that just miss it.
-    ends("request Two", ADD_SIGNED, &[(1 << 31) - 1, LEAST], OVERFLOW),
-    gives(
-        "request Two",
-        ADD_SIGNED,
-        &[LAST - GREATEST, GREATEST],
-        &[LAST],
-    ),
-    ends(
-        "request Two",
-        ADD_SIGNED,
-        &[LAST - GREATEST + 1, GREATEST],
-        OVERFLOW,
-    ),
-    gives(
-        "request Two",
-        ADD_SIGNED,
-        &[LAST_LOW - GREATEST, GREATEST],
-        &[LAST_LOW],
-    ),
-    ends(
-        "request Two",
-        ADD_SIGNED,
-        &[LAST_LOW - GREATEST + 1, GREATEST],
-        RESULT_NOT_CANONICAL,
-    ),
-    gives(
-        "request Two",
-        ADD_SIGNED,
-        &[FIRST_HIGH + (1 << 31), LEAST],
-        &[FIRST_HIGH],
-    ),
-    ends(
-        "request Two",
-        ADD_SIGNED,
-        &[FIRST_HIGH + (1 << 31) - 1, LEAST],
-        RESULT_NOT_CANONICAL,
-    ),
+    not_displaced(&[(1 << 31) - 1, LEAST], OVERFLOW),
+    displaced(&[LAST - GREATEST, GREATEST], &[LAST]),
+    not_displaced(&[LAST - GREATEST + 1, GREATEST], OVERFLOW),
+    displaced(&[LAST_LOW - GREATEST, GREATEST], &[LAST_LOW]),
+    not_displaced(&[LAST_LOW - GREATEST + 1, GREATEST], RESULT_NOT_CANONICAL),
+    displaced(&[FIRST_HIGH + (1 << 31), LEAST], &[FIRST_HIGH]),
+    not_displaced(&[FIRST_HIGH + (1 << 31) - 1, LEAST], RESULT_NOT_CANONICAL),
 ];
 
 const LAST_PAGE: u64 = 0xffff_ffff_ffff_f000;
@@ -339,6 +239,16 @@ const fn ends(
         status,
         words: &[],
     }
+}
+
+/// An address and a displacement of request Two, with their sum.
+const fn displaced(args: &'static [u64], sum: &'static [u64]) -> Case {
+    gives("request Two", ADD_SIGNED, args, sum)
+}
+
+/// An address and a displacement of request Two that are refused.
+const fn not_displaced(args: &'static [u64], status: u8) -> Case {
+    ends("request Two", ADD_SIGNED, args, status)
 }
 
 /// The cases of this operation.

@@ -15,8 +15,8 @@ pub enum Kind {
     Alignment,
     /// A number that is added, subtracted or stepped by.
     Count,
-    /// A displacement: the low 32 bits of the number, with their sign. The bits above them reach the port,
-    /// as the compiler has it, in the register of its int32_t.
+    /// A displacement: the low 32 bits of the number, with their sign. The bits above stand in the register
+    /// of the port's int32_t, as this is compiled, and must not matter.
     Displacement,
     /// A number of pages or frames, of the size before it.
     Items,
