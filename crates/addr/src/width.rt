@@ -1,9 +1,11 @@
 // The width of virtual addresses, and what depends on it.
-ghost use Rattle.std.specs.Prelude.{◌≡◌, ◌^◌};
+ghost use Rattle.std.specs.Prelude.{◌≡◌, ◌^◌, ◌<◌};
+ghost use Rattle.std.proofs.Common.{arith};
 ghost use Rattle.laws.specs.Address.{virt};
 ghost use Rattle.laws.specs.Width.{low, half, first_high, sign_extend, canonical};
-ghost use Rattle.laws.proofs.Item.{virt-argument};
+ghost use Rattle.laws.proofs.Item.{virt-argument, virt-position};
 ghost use Rattle.addr.specs.Widths.{width_of};
+ghost use Rattle.addr.specs.declared.width.Width.TheVariants.{Bits48, Bits57};
 
 use address::Addresses;
 use answer::Refusal;
@@ -23,6 +25,8 @@ impl Addresses for Width {
 
     ghost numbered = { λ w. virt-argument (width_of w) };
 
+    ghost positions_fit = { λ w. virt-position (width_of w) (elim w as (λ x. width_of x < 64) [ Bits48 ↦ omega arith | Bits57 ↦ omega arith ]) };
+
     fn holds(self, addr: u64) -> bool {
         self.is_canonical(addr)
     }
@@ -33,6 +37,10 @@ impl Addresses for Width {
 
     fn result_refusal(self) -> Refusal {
         Refusal::ResultNotCanonical
+    }
+
+    fn position(self, addr: u64) -> u64 {
+        self.low(addr)
     }
 }
 

@@ -1,5 +1,5 @@
 // A space of addresses: the virtual ones of a width, or the physical ones.
-ghost use Rattle.std.specs.Prelude.{◌≡◌, ◌≢◌};
+ghost use Rattle.std.specs.Prelude.{◌≡◌, ◌≢◌, ◌<◌, ◌^◌, ℕ, true};
 ghost use Rattle.answer.specs.Outcome.{gives, unless};
 ghost use Rattle.answer.specs.Answers.{u64_of, bool_of, number_of};
 ghost use Rattle.laws.specs.Address as laws;
@@ -9,7 +9,7 @@ use align::is_aligned;
 use answer::Refusal;
 
 pub trait Addresses: Copy {
-    // Which numbers are addresses, and the refusals.
+    // Which numbers are addresses, the refusals, and where an address is among the others.
     ghost space: { Self → laws.Addresses };
 
     // Whether the number is an address.
@@ -23,8 +23,15 @@ pub trait Addresses: Copy {
     fn result_refusal(self) -> Refusal
         ensures { number_of result ≡ (space self).result };
 
+    // How many addresses are below this one: by it ranges are counted, so without the gap.
+    fn position(self, addr: u64) -> u64
+        ensures { result ≡ (space self).position addr };
+
     // A law: what refuses an argument is no 0, which stands for no refusal.
     ghost numbered: { (s : Self) → (space s).argument ≢ 0 };
+
+    // A law: there are so few addresses that the bytes of a range fit 64 bits.
+    ghost positions_fit: { (s : Self) (a : ℕ) → (space s).holds a ≡ true → (space s).position a < 2 ^ 63 };
 
     // The number, where it is an address.
     final fn tested(self, addr: u64, refusal: Refusal) -> Result<u64, Refusal>

@@ -3,14 +3,15 @@
 use Rattle.std.specs.Prelude.{ℕ, ◌-◌, ◌^◌, ◌≡◌, List, [], ◌∷◌, map, pos, negsuc}
 use Rattle.answer.specs.Outcome.{Outcome, gives, none, refuses}
 use Rattle.laws.specs.Width.{sign_extend}
-use Rattle.laws.specs.Address.{virt, plus, plus_signed, align_up_virt, forward_from, steps_between, table_index, page_offset}
+use Rattle.laws.specs.Address.{virt, phys, plus, plus_signed, align_up_virt, forward_from, steps_between, table_index, page_offset}
 use Rattle.laws.specs.Displacement.{least}
 use Rattle.table.specs.declared.size.PageSize.TheVariants.{Size4KiB, Size2MiB}
 use Rattle.laws.specs.Item.{item}
-use Rattle.laws.specs.Range.{count_below, count_through}
+use Rattle.laws.specs.Range.{count_below, count_through, bytes_through}
 use Rattle.frame.specs.Frame.{pfn_of, from_pfn}
 use Rattle.page.specs.Page.{page_at}
 use Rattle.page.specs.Range.{nth_of, nth_back_of, nth_inclusive_of, nth_back_inclusive_of}
+use Rattle.page.specs.Length.{len_of, len_inclusive_of, size_inclusive_of}
 use Rattle.page.specs.declared.page.Page.{Page}
 use Rattle.range.specs.declared.range.Range.{Range}
 use Rattle.range.specs.declared.range_inclusive.RangeInclusive.{RangeInclusive}
@@ -96,9 +97,9 @@ pub record Table : Type 0 where
       ≡ record { answer = refuses 10; range = exclusive 0x7fff_ffff_f000 0xffff_8000_0000_0000 }
   pub over-back-exclusive : nth_back_of 48 (exclusive 0x7fff_ffff_f000 0xffff_8000_0000_0000) 0
       ≡ record { answer = refuses 10; range = exclusive 0x7fff_ffff_f000 0xffff_8000_0000_0000 }
-  -- K exclusive 7fff_ffff_e000 to ffff_8000_0000_1000: `len` f_fff0_0000_0003; nth(0) 7fff_ffff_e000, nth(1) refusal 10; nth_back(0) ffff_8000_0000_0000,
-  -- nth_back(1) refusal 10
-  pub k-len : count_below (virt 48) 0x7fff_ffff_e000 0x1000 0xffff_8000_0000_1000 0x1000 ≡ gives 0xf_fff0_0000_0003
+  -- K exclusive 7fff_ffff_e000 to ffff_8000_0000_1000: `len` 3 (document 02, request Three; document 01 alone f_fff0_0000_0003); nth(0) 7fff_ffff_e000, nth(1) refusal 10;
+  -- nth_back(0) ffff_8000_0000_0000, nth_back(1) refusal 10
+  pub k-len : count_below (virt 48) 0x7fff_ffff_e000 0x1000 0xffff_8000_0000_1000 0x1000 ≡ gives 3
   pub k-nth-0 : nth_of 48 (exclusive 0x7fff_ffff_e000 0xffff_8000_0000_1000) 0
       ≡ record { answer = gives (item 0x7fff_ffff_e000 0x1000); range = exclusive 0x7fff_ffff_f000 0xffff_8000_0000_1000 }
   pub k-nth-1 : nth_of 48 (exclusive 0x7fff_ffff_e000 0xffff_8000_0000_1000) 1
@@ -123,3 +124,26 @@ pub record Table : Type 0 where
   pub displaced-gap : displacements_from 48 0x8000_0000_0000 ≡ refuses 1 ∷ refuses 1 ∷ refuses 1 ∷ refuses 1 ∷ []
   pub displaced-gap-57 : displacements_from 57 0x100_0000_0000_0000 ≡ refuses 1 ∷ refuses 1 ∷ refuses 1 ∷ refuses 1 ∷ []
   pub displaced-low-57 : displacements_from 57 0x8000_0000_0000 ≡ gives 0x7fff_8000_0000 ∷ gives 0x7fff_ffff_ffff ∷ gives 0x8000_0000_0000 ∷ gives 0x8000_7fff_ffff ∷ []
+  -- request Three: "the whole 4 KiB inclusive range is 2^48 bytes", of 2 MiB pages too; document 01 alone refuses 5
+  pub whole-len : len_inclusive_of 48 (inclusive 0 0xffff_ffff_ffff_f000) ≡ gives (2 ^ 36)
+  pub whole-size : size_inclusive_of 48 (inclusive 0 0xffff_ffff_ffff_f000) ≡ gives (2 ^ 48)
+  pub whole-size-2-mib : size_inclusive_of 48 (large 0 0xffff_ffff_ffe0_0000) ≡ gives (2 ^ 48)
+  -- at 57 bits, and the low pages from 0 to 2^48, which at 48 bits is no address
+  pub whole-len-57 : len_inclusive_of 57 (inclusive 0 0xffff_ffff_ffff_f000) ≡ gives (2 ^ 45)
+  pub whole-size-57 : size_inclusive_of 57 (inclusive 0 0xffff_ffff_ffff_f000) ≡ gives (2 ^ 57)
+  pub low-len-57 : len_of 57 (exclusive 0 (2 ^ 48)) ≡ gives (2 ^ 36)
+  pub low-len-no-address : len_of 48 (exclusive 0 (2 ^ 48)) ≡ refuses 1
+  -- the last low page and the first high one, and no page from a high start to a low end
+  pub over-len : len_of 48 (exclusive 0x7fff_ffff_f000 0xffff_8000_0000_0000) ≡ gives 1
+  pub over-len-inclusive : len_inclusive_of 48 (inclusive 0x7fff_ffff_f000 0xffff_8000_0000_0000) ≡ gives 2
+  pub over-size-inclusive : size_inclusive_of 48 (inclusive 0x7fff_ffff_f000 0xffff_8000_0000_0000) ≡ gives 0x2000
+  pub back-len : len_of 48 (exclusive 0xffff_8000_0000_0000 0x7fff_ffff_f000) ≡ gives 0
+  pub back-len-inclusive : len_inclusive_of 48 (inclusive 0xffff_8000_0000_0000 0x7fff_ffff_f000) ≡ gives 0
+  -- as before: all frames, and the low half alone
+  pub all-frames : bytes_through (phys 52) 0 0x1000 (2 ^ 52 - 0x1000) 0x1000 ≡ gives (2 ^ 52)
+  pub low-half : size_inclusive_of 48 (inclusive 0 0x7fff_ffff_f000) ≡ gives (2 ^ 47)
+  -- "Conditions for 10 don't use `len` and remain": K with n = `len`
+  pub k-nth-3 : nth_of 48 (exclusive 0x7fff_ffff_e000 0xffff_8000_0000_1000) 3
+      ≡ record { answer = refuses 10; range = exclusive 0x7fff_ffff_e000 0xffff_8000_0000_1000 }
+  pub k-back-3 : nth_back_of 48 (exclusive 0x7fff_ffff_e000 0xffff_8000_0000_1000) 3
+      ≡ record { answer = refuses 10; range = exclusive 0x7fff_ffff_e000 0xffff_8000_0000_1000 }

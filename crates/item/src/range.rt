@@ -20,6 +20,17 @@ pub fn numbers(start: Item, end: Item) -> NumberRange
     }
 }
 
+// The range by the positions of its ends, which count no gap.
+fn counted<S: Addresses>(space: S, start: Item, end: Item) -> NumberRange
+    ensures { (result.start ≡ (S.space space).position start.start) × (result.end ≡ (S.space space).position end.start) × (result.size ≡ start.size) }
+{
+    NumberRange {
+        start: space.position(start.start),
+        end: space.position(end.start),
+        size: start.size,
+    }
+}
+
 #[tactic(auto, using(answer::proofs::Refused::refused_number))]
 pub fn is_empty_below<S: Addresses>(space: S, start: Item, end: Item) -> Result<bool, Refusal>
     ensures { bool_of result ≡ empty_below (S.space space) start.start (bytes_of start.size) end.start (bytes_of end.size) }
@@ -42,7 +53,7 @@ pub fn count_below<S: Addresses>(space: S, start: Item, end: Item) -> Result<u64
     ensures { u64_of result ≡ count_below (S.space space) start.start (bytes_of start.size) end.start (bytes_of end.size) }
 {
     check_both(space, start, end)?;
-    Ok(numbers(start, end).len_below())
+    Ok(counted(space, start, end).len_below())
 }
 
 // How many items an inclusive range has.
@@ -51,7 +62,7 @@ pub fn count_through<S: Addresses>(space: S, start: Item, end: Item) -> Result<u
     ensures { u64_of result ≡ count_through (S.space space) start.start (bytes_of start.size) end.start (bytes_of end.size) }
 {
     check_both(space, start, end)?;
-    Ok(numbers(start, end).len_through())
+    Ok(counted(space, start, end).len_through())
 }
 
 // How many bytes an exclusive range has.
@@ -60,15 +71,14 @@ pub fn bytes_below<S: Addresses>(space: S, start: Item, end: Item) -> Result<u64
     ensures { u64_of result ≡ bytes_below (S.space space) start.start (bytes_of start.size) end.start (bytes_of end.size) }
 {
     check_both(space, start, end)?;
-    Ok(numbers(start, end).len_below() * start.size.bytes())
+    Ok(counted(space, start, end).len_below() * start.size.bytes())
 }
 
-// How many bytes an inclusive range has; 5 if they are 2^64.
+// How many bytes an inclusive range has.
 #[tactic(auto, using(answer::proofs::Refused::refused_number))]
 pub fn bytes_through<S: Addresses>(space: S, start: Item, end: Item) -> Result<u64, Refusal>
     ensures { u64_of result ≡ bytes_through (S.space space) start.start (bytes_of start.size) end.start (bytes_of end.size) }
 {
     check_both(space, start, end)?;
-    let len = numbers(start, end).len_through();
-    start.size.checked_bytes(len).ok_or(Refusal::Overflow)
+    Ok(counted(space, start, end).len_through() * start.size.bytes())
 }

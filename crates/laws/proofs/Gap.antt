@@ -18,7 +18,7 @@ use Rattle.laws.proofs.Width.{sizes, canonical-no-gap}
 use Rattle.laws.proofs.Align.{under_top, power-whole, apart-whole}
 use lib.Pow.{pow_pos, pow_mono, pow-add}
 
-append_at : (xs ys : List ℕ) (n : ℕ) → n < length xs → get_elem? (xs ++ ys) n ≡ get_elem? xs n
+pub append_at : (xs ys : List ℕ) (n : ℕ) → n < length xs → get_elem? (xs ++ ys) n ≡ get_elem? xs n
 append_at [] ys n h = absurd (omega arith)
 append_at (x ∷ xs) ys zero h = refl
 append_at (x ∷ xs) ys (suc n) h = append_at xs ys n (omega arith)

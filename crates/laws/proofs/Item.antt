@@ -3,8 +3,10 @@ use mathlib.Core.Path.{◌≡◌, refl}
 use mathlib.Core.Bool.{Bool, true, false, cond}
 use Prim.Native.Nat.{ℕ, zero, suc, ◌+◌, ◌-◌, ◌*◌, ◌%◌, ◌^◌, ◌≤◌, ◌<◌}
 use native.Mathlib.Omega.{arith}
+use native.Mathlib.Nat.{mod-lt}
 use lib.Dec.{eqb, lit<}
-use borrow.Author.Tests.{eqb-true, lt-ltb, le-ltb, le-leb, lt-leb}
+use lib.Pow.{pow_pos, pow_mono}
+use borrow.Author.Tests.{eqb-true, ltb-true, lt-ltb, le-ltb, le-leb, lt-leb}
 use Rattle.answer.specs.Outcome.{Outcome, gives, refuses, unless_refused}
 use Rattle.answer.specs.Refusal.{overflow}
 use Rattle.laws.specs.Address.{Addresses, virt, phys}
@@ -81,6 +83,13 @@ virt-argument w e = omega arith
 
 pub phys-argument : (w : ℕ) → (phys w).argument ≡ 0 → ⊥
 phys-argument w e = omega arith
+
+-- where an address is among those of its space
+pub virt-position : (w : ℕ) → w < 64 → (a : ℕ) → (virt w).holds a ≡ true → (virt w).position a < 2 ^ 63
+virt-position w h a t = omega (arith, mod-lt a (pow_pos w), pow_mono {i = w} {j = 63} (omega arith))
+
+pub phys-position : (a : ℕ) → (phys 52).holds a ≡ true → (phys 52).position a < 2 ^ 63
+phys-position a t = omega (arith, ltb-true a (2 ^ 52) t)
 
 -- the number that refuses two pages is one of theirs: 1, 3 or 7
 pub virt-items-number : (w a y b z : ℕ) → items_refusal (virt w) a y b z < 10

@@ -18,6 +18,8 @@ pub mod Kept
 pub mod Next
 pub mod Within
 pub mod Before
+pub mod Length
+pub mod Listed
 pub mod Drawing
 pub mod OneByOne
 pub mod Drained

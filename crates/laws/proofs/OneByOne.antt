@@ -114,3 +114,13 @@ module _ {S : Type 0} {Given Empty : S → Type 0} {len : S → ℕ} {Free : ℕ
 pub one_by_one : {S : Type 0} {Given Empty : S → Type 0} {len : S → ℕ} {Free : Side → ℕ → S → Type 0} {out : Side → ℕ → S → Drawn S} {nth : Side → ℕ → S → Option (Drawn S)}
     → ((side : Side) → Settled Given Empty len (Free side) (out side) (nth side)) → OneByOne Given Empty len nth
 one_by_one p = record { on-empty = λ side. on-empty (p side); as-next = λ side. as-next (p side); past_all = λ side. past_all (p side) }
+
+-- by a length that is the same where a draw past it is not refused
+pub other_length : {S : Type 0} {Given Empty : S → Type 0} {len other : S → ℕ} {nth : Side → ℕ → S → Option (Drawn S)}
+    → ((side : Side) (n : ℕ) (r : S) (d : Drawn S) → other r ≤ n → nth side n r ≡ some d → other r ≡ len r) → OneByOne Given Empty len nth → OneByOne Given Empty other nth
+other_length same o =
+    record {
+      on-empty = o.on-empty;
+      as-next = o.as-next;
+      past_all = λ side n r d l h. let e = same side n r d l h in rw e (o.past_all side n r d (rw e at l) h);
+    }

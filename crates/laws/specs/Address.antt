@@ -2,24 +2,25 @@
 use Rattle.std.specs.Prelude.{ℕ, ◌+◌, ◌-◌, ◌^◌, Bool, ltb, leb, eqb, ℤ, pos, negsuc, ◌+ℤ◌}
 use Rattle.answer.specs.Outcome.{Outcome, gives, refuses, unless, and_then}
 use Rattle.answer.specs.Refusal.{not_canonical, not_physical, not_power_of_two, overflow, result_not_canonical, result_not_physical}
-use Rattle.laws.specs.Width.{canonical, sign_extend}
+use Rattle.laws.specs.Width.{low, canonical, sign_extend}
 use Rattle.laws.specs.Steps.{forward, backward, steps}
 use Rattle.laws.specs.Align.{power_of_two, up, align_down, align_up, multiple_of}
 use Rattle.laws.specs.Index.{index, offset}
 
--- which numbers are addresses, and the refusals of an argument and of a result that is none
+-- which numbers are addresses, the refusals of an argument and of a result that is none, and how many of them are below one, its position, by which the lengths of ranges are counted
 pub record Addresses : Type 0 where
   pub holds : ℕ → Bool
   pub argument : ℕ
   pub result : ℕ
+  pub position : ℕ → ℕ
 
--- "1 a virtual number not canonical"; "6 if the virtual result isn't canonical"
+-- "1 a virtual number not canonical"; "6 if the virtual result isn't canonical"; "steps by low48" (document 02, request Three)
 abbrev pub virt : ℕ → Addresses
-virt w = record { holds = canonical w; argument = not_canonical; result = result_not_canonical }
+virt w = record { holds = canonical w; argument = not_canonical; result = result_not_canonical; position = low w }
 
--- "2 a physical number of 2^52 or more"; "8 if the physical one is 2^52 or more"
+-- "2 a physical number of 2^52 or more"; "8 if the physical one is 2^52 or more"; there is no gap, and the position is the number
 abbrev pub phys : ℕ → Addresses
-phys w = record { holds = λ a. ltb a (2 ^ w); argument = not_physical; result = result_not_physical }
+phys w = record { holds = λ a. ltb a (2 ^ w); argument = not_physical; result = result_not_physical; position = λ a. a }
 
 -- how many physical addresses there are
 abbrev pub phys_size : ℕ

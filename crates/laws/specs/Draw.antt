@@ -14,28 +14,41 @@ pub record Draw : Type 0 where
 abbrev pub taken : ℕ → ℕ → ℕ
 taken k n = min (n + 1) k
 
--- "`nth(n)` gives the item n places on and leaves start just past it", of the items `l`
-abbrev pub front_below : List ℕ → ℕ → ℕ → ℕ → ℕ → Draw
-front_below l a b s n = record { item = get_elem? l n; start = a + taken (len_below a b s) n * s; end = b }
+-- "`nth(n)` gives the item n places on and leaves start just past it", of the `k` items `l`
+abbrev pub front_of : List ℕ → ℕ → ℕ → ℕ → ℕ → ℕ → Draw
+front_of l k a b s n = record { item = get_elem? l n; start = a + taken k n * s; end = b }
 
 -- "`nth_back(n)` gives the item n places before the back one and leaves end at that item (exclusive)": of ends that are whole sizes apart, as those of
 -- an accepted range are (`end-at-item` of proofs/Draw.antt)
-abbrev pub back_below : List ℕ → ℕ → ℕ → ℕ → ℕ → Draw
-back_below l a b s n = record { item = get_elem? (reverse l) n; start = a; end = b - taken (len_below a b s) n * s }
+abbrev pub back_of : List ℕ → ℕ → ℕ → ℕ → ℕ → ℕ → Draw
+back_of l k a b s n = record { item = get_elem? (reverse l) n; start = a; end = b - taken k n * s }
 
 -- "An inclusive draw from the front that gives the topmost page or frame of its size sets start on it and lowers end by one item instead": where the start would
 -- pass `top`, the topmost item
-abbrev pub front_through : List ℕ → ℕ → ℕ → ℕ → ℕ → ℕ → Draw
-front_through l top a b s n =
-    let next = a + taken (len_through a b s) n * s in
+abbrev pub front_inclusive_of : List ℕ → ℕ → ℕ → ℕ → ℕ → ℕ → ℕ → Draw
+front_inclusive_of l k top a b s n =
+    let next = a + taken k n * s in
     record { item = get_elem? l n; start = cond (ltb top next) top next; end = cond (ltb top next) (top - s) b }
 
 -- "or one item below it (inclusive)"; "one from the back that gives address 0 sets end on it and raises start by one item instead": where the end would pass `bottom`,
 -- the lowest item
-abbrev pub back_through : List ℕ → ℕ → ℕ → ℕ → ℕ → ℕ → Draw
-back_through l bottom a b s n =
-    let back = taken (len_through a b s) n * s in
+abbrev pub back_inclusive_of : List ℕ → ℕ → ℕ → ℕ → ℕ → ℕ → ℕ → Draw
+back_inclusive_of l k bottom a b s n =
+    let back = taken k n * s in
     record { item = get_elem? (reverse l) n; start = cond (ltb b (bottom + back)) (a + s) a; end = cond (ltb b (bottom + back)) bottom (b - back) }
+
+-- the same of as many items as have room between the numbers `a` and `b`: of frames, and of pages as document 01 alone has them
+abbrev pub front_below : List ℕ → ℕ → ℕ → ℕ → ℕ → Draw
+front_below l a b s n = front_of l (len_below a b s) a b s n
+
+abbrev pub back_below : List ℕ → ℕ → ℕ → ℕ → ℕ → Draw
+back_below l a b s n = back_of l (len_below a b s) a b s n
+
+abbrev pub front_through : List ℕ → ℕ → ℕ → ℕ → ℕ → ℕ → Draw
+front_through l top a b s n = front_inclusive_of l (len_through a b s) top a b s n
+
+abbrev pub back_through : List ℕ → ℕ → ℕ → ℕ → ℕ → ℕ → Draw
+back_through l bottom a b s n = back_inclusive_of l (len_through a b s) bottom a b s n
 
 -- where the end after a draw would be below 0, at which a difference of numbers stops: that of `back_below`, and that of `front_through` at the topmost item. The other
 -- two draws lower no end below 0.

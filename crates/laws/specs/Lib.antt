@@ -4,6 +4,7 @@ pub mod Align
 pub mod Index
 pub mod Number
 pub mod Run
+pub mod Length
 pub mod Draw
 pub mod Drawing
 pub mod Kind

@@ -1,8 +1,7 @@
 -- What the calls on ranges of pages and of frames answer, beside the draws. `a` and `y` are the start and its size, `b` and `z` the end and its size.
--- The sentences are those of document 01, "Ranges".
-use Rattle.std.specs.Prelude.{ℕ, ◌*◌, ◌-◌, ◌^◌, Bool, true, false, cond, ltb, leb, eqb}
-use Rattle.answer.specs.Outcome.{Outcome, gives, unless}
-use Rattle.answer.specs.Refusal.{overflow}
+-- The sentences are those of document 01, "Ranges", but where another is named.
+use Rattle.std.specs.Prelude.{ℕ, ◌*◌, Bool, ltb, leb}
+use Rattle.answer.specs.Outcome.{Outcome, gives}
 use Rattle.laws.specs.Run.{len_below, len_through}
 use Rattle.laws.specs.Address.{Addresses}
 use Rattle.laws.specs.Item.{Item, item, given_items}
@@ -26,19 +25,17 @@ empty_below s a y b z = given_items s a y b z (gives (leb b a))
 abbrev pub empty_through : Addresses → ℕ → ℕ → ℕ → ℕ → Outcome Bool
 empty_through s a y b z = given_items s a y b z (gives (ltb b a))
 
--- "`len` is 0 when empty, else (end − start) / size on the raw 64-bit numbers, plus 1 if inclusive; across the gap it counts the gap."
+-- "`len` is 0 when empty, else (end − start) / size .., plus 1 if inclusive", for pages "steps by low48, divided by the size, plus 1 if inclusive" (document 02, request Three): by the positions, which are in
+-- the order of the addresses
 abbrev pub count_below : Addresses → ℕ → ℕ → ℕ → ℕ → Outcome ℕ
-count_below s a y b z = given_items s a y b z (gives (len_below a b y))
+count_below s a y b z = given_items s a y b z (gives (len_below (s.position a) (s.position b) y))
 
 abbrev pub count_through : Addresses → ℕ → ℕ → ℕ → ℕ → Outcome ℕ
-count_through s a y b z = given_items s a y b z (gives (len_through a b y))
+count_through s a y b z = given_items s a y b z (gives (len_through (s.position a) (s.position b) y))
 
--- `size`: as many bytes as the items have; "`size` (inclusive pages): 5 exactly for a start of 0 and the last page as end", where it would be 2^64
+-- "`size` follows it": as many bytes as the items have; "and `size` has no refusal 5 left" (document 02, request Three)
 abbrev pub bytes_below : Addresses → ℕ → ℕ → ℕ → ℕ → Outcome ℕ
-bytes_below s a y b z = given_items s a y b z (gives (len_below a b y * y))
+bytes_below s a y b z = given_items s a y b z (gives (len_below (s.position a) (s.position b) y * y))
 
 abbrev pub bytes_through : Addresses → ℕ → ℕ → ℕ → ℕ → Outcome ℕ
-bytes_through s a y b z =
-    given_items s a y b z
-    (unless overflow (cond (eqb b (2 ^ 64 - y)) (cond (eqb a 0) false true) true)
-    (gives (len_through a b y * y)))
+bytes_through s a y b z = given_items s a y b z (gives (len_through (s.position a) (s.position b) y * y))

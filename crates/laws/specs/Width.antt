@@ -38,6 +38,11 @@ first_high w = 2 ^ 64 - half w
 abbrev pub InGap : ℕ → ℕ → Type 0
 InGap w a = (half w ≤ a) × (a < 2 ^ 64 - half w)
 
+-- a low address, then a high one: the gap lies between
+pub record OverGap (w a b : ℕ) : Type 0 where
+  pub start_low : a < half w
+  pub end_high : first_high w ≤ b
+
 -- two addresses in one half: "A half is the pages below the gap or those above it."
 pub data InOneHalf (w a b : ℕ) : Type 0 where
   both_low : a < half w → b < half w → InOneHalf w a b

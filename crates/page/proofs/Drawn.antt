@@ -10,7 +10,7 @@ use borrow.Author.Tests.{eq-eqb}
 use lib.ListN.{get_elem?, drop}
 use Rattle.answer.specs.Refusal.{draw_meets_gap}
 use Rattle.laws.specs.Width.{half, first_high}
-use Rattle.laws.specs.Run.{len_below, len_through, below, through, pages_below, pages_through}
+use Rattle.laws.specs.Run.{len_below, len_through, below, through, pages_below, pages_through, page_len_below, page_len_through}
 use Rattle.laws.specs.Draw as draw
 use Rattle.laws.specs.Drawing.{Side, front, back, Drawn, EachOnce, OneByOne}
 use Rattle.laws.proofs.Width.{canonical-halves}
@@ -25,7 +25,7 @@ use Rattle.laws.proofs.PagesLeft as left
 use Rattle.laws.proofs.PagesLeft.{pages-front-left, pages-back-left, pages-front-through-left, pages-back-through-left}
 use Rattle.laws.proofs.Ranges.{Items, Ends, Facts, drawn_at, settled}
 use Rattle.laws.proofs.Drawing.{each-once}
-use Rattle.laws.proofs.OneByOne.{Settled, settled as settled_is, one_by_one}
+use Rattle.laws.proofs.OneByOne.{Settled, settled as settled_is, one_by_one, other_length}
 use Rattle.table.specs.Level.{power_of}
 use Rattle.table.proofs.Sizes.{bounds}
 use Rattle.range.specs.Ranges.{made, made_inclusive}
@@ -38,6 +38,7 @@ use Rattle.addr.proofs.Widths.{widths, wide}
 use Rattle.page.specs.Page.{start, bytes, page_at}
 use Rattle.page.specs.Range.{refusal, pages, pages_of, pages_inclusive_of, IsAccepted, IsAcceptedInclusive, IsEmpty, IsEmptyInclusive, len, len_inclusive, nth_from, nth_inclusive_from, next_from, next_inclusive_from}
 use Rattle.page.specs.declared.page.Page.{Page}
+use Rattle.page_draw.proofs.Settled as numbers
 use Rattle.page.proofs.Ranges as ranges
 
 items : Items pages
@@ -172,7 +173,7 @@ PageFacts w Empty len gap made on =
     Facts pages len (λ x y. refusal w x y ≡ 0) Empty (Free w gap) (number w gap) (λ n x y. made (bytes x) (start x) (start y) n) on
 
 module _ (v : Width) (Empty : Page → Page → Type 0) (len : ℕ → ℕ → ℕ → ℕ) (gap : ℕ → ℕ → ℕ → ℕ → ℕ → Bool) (made on : ℕ → ℕ → ℕ → ℕ → draw.Draw)
-    (same : (x y : Page) (n : ℕ) → PageEnds (width_of v) (bytes x) (start x) (start y) → gap (width_of v) (start x) (start y) (bytes x) n ≡ false → made (bytes x) (start x) (start y) n ≡ on (bytes x) (start x) (start y) n)
+    (same : (x y : Page) (n : ℕ) → refusal (width_of v) x y ≡ 0 → gap (width_of v) (start x) (start y) (bytes x) n ≡ false → made (bytes x) (start x) (start y) n ≡ on (bytes x) (start x) (start y) n)
     (steps : (z a b : ℕ) → PageEnds (width_of v) z a b → Stepwise (len a b z) (on z) a b)
     (pages-left : (x y : Page) → refusal (width_of v) x y ≡ 0 → gap (width_of v) (start x) (start y) (bytes x) 0 ≡ false → Pages (width_of v) (bytes x) (on (bytes x) (start x) (start y) 0))
     (gap-after : (x y : Page) (n : ℕ) → refusal (width_of v) x y ≡ 0 → gap (width_of v) (start x) (start y) (bytes x) 0 ≡ false
@@ -186,7 +187,7 @@ module _ (v : Width) (Empty : Page → Page → Type 0) (len : ℕ → ℕ → �
         no_number = λ n x y f. let (g, h) = f in simp (g, h);
         free = λ n x y h. passed (refusal (width_of v) x y) (gap (width_of v) (start x) (start y) (bytes x) n) h;
         given = λ n x y f. f.0;
-        by-numbers = λ n x y f. same x y n (ranges.accepted v x y f.0).ends f.1;
+        by-numbers = λ n x y f. same x y n f.0 f.1;
         steps = λ x y g. steps (bytes x) (start x) (start y) (ranges.accepted v x y g).ends;
         after = λ n x y f h. (f.0, sym (gap-after x y n f.0 f.1) ∙ h.1);
         before = λ n x y f.
@@ -210,10 +211,10 @@ none-through x y h = through-none (start x) (start y) (bytes x) h
 
 -- the facts of the four draws
 module _ (v : Width) where
-  front-facts : PageFacts (width_of v) EmptyBelow len_below draw.gap_front (λ z a b n. draw.front_below (pages_below (width_of v) a b z) a b z n) on_front
+  front-facts : PageFacts (width_of v) EmptyBelow len_below draw.gap_front (λ z a b n. draw.front_of (pages_below (width_of v) a b z) (page_len_below (width_of v) a b z) a b z n) on_front
   front-facts =
-      facts v EmptyBelow len_below draw.gap_front (λ z a b n. draw.front_below (pages_below (width_of v) a b z) a b z n) on_front
-      (λ x y n p g. rw (front_below (width_of v) (bytes x) (start x) (start y) p n g))
+      facts v EmptyBelow len_below draw.gap_front (λ z a b n. draw.front_of (pages_below (width_of v) a b z) (page_len_below (width_of v) a b z) a b z n) on_front
+      (λ x y n e g. rw (front_below (width_of v) (bytes x) (start x) (start y) (ranges.accepted v x y e).ends n g, (numbers.front-alike v (start x) x.size (start y) y.size n e g).same))
       (λ z a b p. front-below-steps z a b p.some)
       (front-pages v)
       (λ x y n e g. kept.front-below-gap (width_of v) (bytes x) (start x) (start y) (ranges.accepted v x y e).ends g n)
@@ -221,10 +222,10 @@ module _ (v : Width) where
       none_below
       (λ x y n p h. kept.front-none (width_of v) (bytes x) (start x) (start y) n p h)
 
-  back-facts : PageFacts (width_of v) EmptyBelow len_below draw.gap_back (λ z a b n. draw.back_below (pages_below (width_of v) a b z) a b z n) on_back
+  back-facts : PageFacts (width_of v) EmptyBelow len_below draw.gap_back (λ z a b n. draw.back_of (pages_below (width_of v) a b z) (page_len_below (width_of v) a b z) a b z n) on_back
   back-facts =
-      facts v EmptyBelow len_below draw.gap_back (λ z a b n. draw.back_below (pages_below (width_of v) a b z) a b z n) on_back
-      (λ x y n p g. rw (back_below (width_of v) (bytes x) (start x) (start y) p n g))
+      facts v EmptyBelow len_below draw.gap_back (λ z a b n. draw.back_of (pages_below (width_of v) a b z) (page_len_below (width_of v) a b z) a b z n) on_back
+      (λ x y n e g. rw (back_below (width_of v) (bytes x) (start x) (start y) (ranges.accepted v x y e).ends n g, (numbers.back-alike v (start x) x.size (start y) y.size n e g).same))
       (λ z a b p. back-below-steps z a b p.some)
       (back-pages v)
       (λ x y n e g. kept.back-below-gap (width_of v) (bytes x) (start x) (start y) (ranges.accepted v x y e).ends g n)
@@ -232,10 +233,10 @@ module _ (v : Width) where
       none_below
       (λ x y n p h. kept.back-none (width_of v) (bytes x) (start x) (start y) n p h)
 
-  front-inclusive-facts : PageFacts (width_of v) EmptyThrough len_through draw.gap_front (λ z a b n. draw.front_through (pages_through (width_of v) a b z) (draw.top_of (width_of v) a b z) a b z n) (on_front_inclusive (width_of v))
+  front-inclusive-facts : PageFacts (width_of v) EmptyThrough len_through draw.gap_front (λ z a b n. draw.front_inclusive_of (pages_through (width_of v) a b z) (page_len_through (width_of v) a b z) (draw.top_of (width_of v) a b z) a b z n) (on_front_inclusive (width_of v))
   front-inclusive-facts =
-      facts v EmptyThrough len_through draw.gap_front (λ z a b n. draw.front_through (pages_through (width_of v) a b z) (draw.top_of (width_of v) a b z) a b z n) (on_front_inclusive (width_of v))
-      (λ x y n p g. rw (front-through (width_of v) (bytes x) (start x) (start y) p n g))
+      facts v EmptyThrough len_through draw.gap_front (λ z a b n. draw.front_inclusive_of (pages_through (width_of v) a b z) (page_len_through (width_of v) a b z) (draw.top_of (width_of v) a b z) a b z n) (on_front_inclusive (width_of v))
+      (λ x y n e g. rw (front-through (width_of v) (bytes x) (start x) (start y) (ranges.accepted v x y e).ends n g, (numbers.front-through-alike v (start x) x.size (start y) y.size n e g).same))
       (left.page-front-steps (width_of v))
       (front-inclusive-pages v)
       (λ x y n e g. kept.front-through-gap (width_of v) (bytes x) (start x) (start y) (ranges.accepted v x y e).ends (through (start x) (start y) (bytes x)) g n)
@@ -243,10 +244,10 @@ module _ (v : Width) where
       none-through
       (λ x y n p h. kept.front-none (width_of v) (bytes x) (start x) (start y) n p (le_of_lt h))
 
-  back-inclusive-facts : PageFacts (width_of v) EmptyThrough len_through draw.gap_back (λ z a b n. draw.back_through (pages_through (width_of v) a b z) (draw.bottom_of (width_of v) a b) a b z n) (on_back_inclusive (width_of v))
+  back-inclusive-facts : PageFacts (width_of v) EmptyThrough len_through draw.gap_back (λ z a b n. draw.back_inclusive_of (pages_through (width_of v) a b z) (page_len_through (width_of v) a b z) (draw.bottom_of (width_of v) a b) a b z n) (on_back_inclusive (width_of v))
   back-inclusive-facts =
-      facts v EmptyThrough len_through draw.gap_back (λ z a b n. draw.back_through (pages_through (width_of v) a b z) (draw.bottom_of (width_of v) a b) a b z n) (on_back_inclusive (width_of v))
-      (λ x y n p g. rw (back-through (width_of v) (bytes x) (start x) (start y) p n g))
+      facts v EmptyThrough len_through draw.gap_back (λ z a b n. draw.back_inclusive_of (pages_through (width_of v) a b z) (page_len_through (width_of v) a b z) (draw.bottom_of (width_of v) a b) a b z n) (on_back_inclusive (width_of v))
+      (λ x y n e g. rw (back-through (width_of v) (bytes x) (start x) (start y) (ranges.accepted v x y e).ends n g, (numbers.back-through-alike v (start x) x.size (start y) y.size n e g).same))
       (left.page-back-steps (width_of v))
       (back-inclusive-pages v)
       (λ x y n e g. kept.back-through-gap (width_of v) (bytes x) (start x) (start y) (ranges.accepted v x y e).ends (through (start x) (start y) (bytes x)) g n)
@@ -278,20 +279,30 @@ abbrev IsFreeInclusive : ℕ → Side → ℕ → RangeInclusive Page → Type 0
 IsFreeInclusive w front n r = Free w draw.gap_front n r.start r.end
 IsFreeInclusive w back n r = Free w draw.gap_back n r.start r.end
 
-pub given-range : (v : Width) (side : Side) → Settled (IsAccepted (width_of v)) IsEmpty len (IsFree (width_of v) side) (out side) (nth_from (width_of v) side)
+pub given-range : (v : Width) (side : Side) → Settled (IsAccepted (width_of v)) IsEmpty ranges.numbers_len (IsFree (width_of v) side) (out side) (nth_from (width_of v) side)
 given-range v front = settled items ends (front-facts v)
 given-range v back = settled items ends (back-facts v)
 
-pub given-inclusive : (v : Width) (side : Side) → Settled (IsAcceptedInclusive (width_of v)) IsEmptyInclusive len_inclusive (IsFreeInclusive (width_of v) side) (out_inclusive (width_of v) side) (nth_inclusive_from (width_of v) side)
+pub given-inclusive : (v : Width) (side : Side) → Settled (IsAcceptedInclusive (width_of v)) IsEmptyInclusive ranges.numbers_len_inclusive (IsFreeInclusive (width_of v) side) (out_inclusive (width_of v) side) (nth_inclusive_from (width_of v) side)
 given-inclusive v front = settled items ends_inclusive (front-inclusive-facts v)
 given-inclusive v back = settled items ends_inclusive (back-inclusive-facts v)
 
--- a draw with n as n + 1 draws with n = 0
-pub pages-one-by-one : (v : Width) → OneByOne (IsAccepted (width_of v)) IsEmpty len (nth_from (width_of v))
-pages-one-by-one v = one_by_one (given-range v)
+-- where a draw past the last page is not refused, the range has no gap to count
+past-same : (v : Width) (side : Side) (n : ℕ) (r : Range Page) (d : Drawn (Range Page)) → len (width_of v) r ≤ n → nth_from (width_of v) side n r ≡ some d → len (width_of v) r ≡ ranges.numbers_len r
+past-same v front n r d l h = let (e, g) = (given-range v front).free n r d h in (numbers.front-alike v (start r.start) r.start.size (start r.end) r.end.size n e g).past l
+past-same v back n r d l h = let (e, g) = (given-range v back).free n r d h in (numbers.back-alike v (start r.start) r.start.size (start r.end) r.end.size n e g).past l
 
-pub pages-inclusive-one-by-one : (v : Width) → OneByOne (IsAcceptedInclusive (width_of v)) IsEmptyInclusive len_inclusive (nth_inclusive_from (width_of v))
-pages-inclusive-one-by-one v = one_by_one (given-inclusive v)
+past-same-inclusive : (v : Width) (side : Side) (n : ℕ) (r : RangeInclusive Page) (d : Drawn (RangeInclusive Page)) → len_inclusive (width_of v) r ≤ n → nth_inclusive_from (width_of v) side n r ≡ some d
+    → len_inclusive (width_of v) r ≡ ranges.numbers_len_inclusive r
+past-same-inclusive v front n r d l h = let (e, g) = (given-inclusive v front).free n r d h in (numbers.front-through-alike v (start r.start) r.start.size (start r.end) r.end.size n e g).past l
+past-same-inclusive v back n r d l h = let (e, g) = (given-inclusive v back).free n r d h in (numbers.back-through-alike v (start r.start) r.start.size (start r.end) r.end.size n e g).past l
+
+-- a draw with n as n + 1 draws with n = 0
+pub pages-one-by-one : (v : Width) → OneByOne (IsAccepted (width_of v)) IsEmpty (len (width_of v)) (nth_from (width_of v))
+pages-one-by-one v = other_length (past-same v) (one_by_one (given-range v))
+
+pub pages-inclusive-one-by-one : (v : Width) → OneByOne (IsAcceptedInclusive (width_of v)) IsEmptyInclusive (len_inclusive (width_of v)) (nth_inclusive_from (width_of v))
+pages-inclusive-one-by-one v = other_length (past-same-inclusive v) (one_by_one (given-inclusive v))
 
 -- each page once
 module _ (v : Width) (r : Range Page) (d : Drawn (Range Page)) where

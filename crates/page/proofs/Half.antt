@@ -12,13 +12,16 @@ use Rattle.laws.specs.Run.{len_through, through}
 use Rattle.laws.specs.Draw.{gap_front, gap_back}
 use Rattle.laws.proofs.Run.{run_at, back_at}
 use Rattle.laws.proofs.Gap.{PageEnds}
+use Rattle.laws.proofs.Length as lengths
 use Rattle.laws.proofs.Kept.{front-low, back-high}
 use Rattle.laws.proofs.Halves.{top-low, bottom-high}
 use Rattle.laws.proofs.PagesLeft.{front-at-top, back-at-bottom}
 use Rattle.range.specs.declared.range_inclusive.RangeInclusive.{RangeInclusive}
 use Rattle.addr.specs.Widths.{width_of}
 use Rattle.addr.specs.declared.width.Width.{Width}
+use Rattle.addr.proofs.Widths.{widths}
 use Rattle.page.specs.Page.{start, bytes}
+use Rattle.page.specs.Range.{len_inclusive}
 use Rattle.page.specs.Half.{EndsLowHalf, StartsHighHalf, DrawnToHalfEnd}
 use Rattle.page.specs.declared.page.Page.{Page}
 use Rattle.page.proofs.Ranges.{accepted, numbers_inclusive_in, nth-inclusive-settled, nth-back-inclusive-settled}
@@ -55,11 +58,24 @@ module _ (v : Width) (r : RangeInclusive Page) (n : ℕ) where
   ends : EndsLowHalf w r → PageEnds w z a b
   ends h = (accepted v r.start r.end h.given).ends
 
+  -- its length counts no gap
+  low-length : EndsLowHalf w r → len_inclusive w r ≡ len_through a b z
+  low-length h =
+      let x = accepted v r.start r.end h.given in
+      let l = h.last in
+      lengths.through-apart w z a b (widths v) x.first-address x.last-address x.ends (λ o. omega (arith, o.end_high, x.ends.some, x.ends.halves))
+
   no-front-gap : EndsLowHalf w r → gap_front w a b z n ≡ false
   no-front-gap h = let p = ends h in let l = h.last in front-low w z a b n (omega (arith, p.some, p.halves))
 
   high-ends : StartsHighHalf w r → PageEnds w z a b
   high-ends h = (accepted v r.start r.end h.given).ends
+
+  high-length : StartsHighHalf w r → len_inclusive w r ≡ len_through a b z
+  high-length h =
+      let x = accepted v r.start r.end h.given in
+      let l = h.first in
+      lengths.through-apart w z a b (widths v) x.first-address x.last-address x.ends (λ o. omega (arith, o.start_low, x.ends.halves))
 
   no-back-gap : StartsHighHalf w r → gap_back w a b z n ≡ false
   no-back-gap h = let p = high-ends h in let l = h.first in back-high w z a b n (omega (arith, p.halves))
@@ -68,18 +84,18 @@ pub drawn-to-half-end : (v : Width) → DrawnToHalfEnd (width_of v)
 drawn-to-half-end v =
     record {
       front = λ r n h k.
-          rw (← nth-inclusive-settled v r n h.given (no-front-gap v r n h), last-item (start r.start) (start r.end) (bytes r.start) n k h.not_empty (ends v r n h).apart);
+          rw (← nth-inclusive-settled v r n h.given (no-front-gap v r n h), last-item (start r.start) (start r.end) (bytes r.start) n (rw (low-length v r n h) at k) h.not_empty (ends v r n h).apart);
       front-left = λ r n h k.
           let p = ends v r n h in
           let l = h.last in
           let t = top-low (width_of v) (start r.start) (start r.end) (bytes r.start) (omega (arith, p.some, h.not_empty)) (omega (arith, p.some)) in
-          let (x, y) = front-at-top (width_of v) (bytes r.start) (start r.start) (start r.end) p (numbers_inclusive_in r.start r.end) n h.not_empty (omega arith) k in
+          let (x, y) = front-at-top (width_of v) (bytes r.start) (start r.start) (start r.end) p (numbers_inclusive_in r.start r.end) n h.not_empty (omega arith) (rw (low-length v r n h) at k) in
           rw (← nth-inclusive-settled v r n h.given (no-front-gap v r n h)) (rw (x, y));
-      back = λ r n h k. rw (← nth-back-inclusive-settled v r n h.given (no-back-gap v r n h), first-item (start r.start) (start r.end) (bytes r.start) n k);
+      back = λ r n h k. rw (← nth-back-inclusive-settled v r n h.given (no-back-gap v r n h), first-item (start r.start) (start r.end) (bytes r.start) n (rw (high-length v r n h) at k));
       back-left = λ r n h k.
           let p = high-ends v r n h in
           let l = h.first in
           let t = bottom-high (width_of v) (start r.start) (start r.end) (omega arith) (omega (arith, h.not_empty)) in
-          let (x, y) = back-at-bottom (width_of v) (bytes r.start) (start r.start) (start r.end) p (numbers_inclusive_in r.start r.end) n h.not_empty (omega arith) k in
+          let (x, y) = back-at-bottom (width_of v) (bytes r.start) (start r.start) (start r.end) p (numbers_inclusive_in r.start r.end) n h.not_empty (omega arith) (rw (high-length v r n h) at k) in
           rw (← nth-back-inclusive-settled v r n h.given (no-back-gap v r n h)) (rw (x, y));
     }

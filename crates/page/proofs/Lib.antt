@@ -6,4 +6,5 @@ pub mod Drawn
 pub mod Drained
 pub mod Gap
 pub mod Before
+pub mod Length
 pub mod Half

@@ -1,17 +1,9 @@
 -- Draws of pages by draws on the numbers of their range, where nothing refuses them.
-use Prim.Native.Nat.{ℕ, ◌+◌, ◌-◌, ◌*◌, ◌/◌, ◌^◌, ◌≤◌, ◌<◌}
-use mathlib.Core.Path.{◌≡◌, ◌∙◌}
-use mathlib.Core.Bool.{true, false, cond}
+use Prim.Native.Nat.{ℕ}
+use mathlib.Core.Path.{◌≡◌}
+use mathlib.Core.Bool.{false}
 use mathlib.Core.List.{List}
-use native.Mathlib.Omega.{arith}
-use native.Mathlib.Decide.{ℕ_discrete}
-use native.Mathlib.Nat.{zero-mul, add-mul}
-use borrow.Author.Tests.{eq-eqb, ne_eqb, lt-ltb, le-ltb}
-use lib.Dec.{eqb}
-use Rattle.answer.specs.Outcome.{Outcome, gives, refuses, unless}
-use Rattle.answer.specs.Refusal.{overflow}
-use Rattle.laws.specs.Run.{below, through, len_through}
-use Rattle.laws.proofs.Cases.{by_cases}
+use Rattle.laws.specs.Run.{below, through, len_below, len_through}
 use Rattle.laws.specs.Draw as draw
 use Rattle.laws.specs.Kind.{settled}
 use Rattle.laws.proofs.Kind.{guarded_gives}
@@ -56,6 +48,13 @@ numbers_in x y = below (start x) (start y) (bytes x)
 abbrev pub numbers_inclusive_in : Page → Page → List ℕ
 numbers_inclusive_in x y = through (start x) (start y) (bytes x)
 
+-- how many numbers of one page each have room in a range, the gap included
+abbrev pub numbers_len : Range Page → ℕ
+numbers_len r = len_below (start r.start) (start r.end) (bytes r.start)
+
+abbrev pub numbers_len_inclusive : RangeInclusive Page → ℕ
+numbers_len_inclusive r = len_through (start r.start) (start r.end) (bytes r.start)
+
 -- each draw away from the gap: by the numbers of the range alone
 module _ (v : Width) (r : Range Page) (n : ℕ) (e : refusal (width_of v) r.start r.end ≡ 0) where
   pub nth-settled : draw.gap_front (width_of v) (start r.start) (start r.end) (bytes r.start) n ≡ false → settled pages made r.start r.end (front r.start r.end n (numbers_in r.start r.end)) ≡ nth_of (width_of v) r n
@@ -80,22 +79,3 @@ module _ (v : Width) (r : RangeInclusive Page) (n : ℕ) (e : refusal (width_of 
   nth-back-inclusive-settled g =
       guarded_gives pages made_inclusive r.start r.end (nth_back_through (width_of v) (start r.start) (bytes r.start) (start r.end) (bytes r.end) n)
       (back_inclusive (width_of v) r.start r.end n (numbers_inclusive_in r.start r.end)) (numbers.back-inclusive v (start r.start) r.start.size (start r.end) r.end.size n e g)
-
--- `size` of an inclusive range: none, all of the 64-bit space, and what lies between
-module _ (a b z : ℕ) (p : 0 < z) (ha : a + z ≤ 2 ^ 64) (hb : b + z ≤ 2 ^ 64) where
-  abbrev bytes-outcome : Outcome ℕ
-  bytes-outcome = unless overflow (cond (eqb b (2 ^ 64 - z)) (cond (eqb a 0) false true) true) (gives (len_through a b z * z))
-
-  pub bytes-none : b < a → gives 0 ≡ bytes-outcome
-  unfolding len_through
-  bytes-none h = simp (ne_eqb b (2 ^ 64 - z) (λ e. omega arith), lt-ltb b a h, zero-mul)
-
-  pub bytes-all : 2 ^ 64 - z ≤ b - a → refuses overflow ≡ bytes-outcome
-  bytes-all h = simp (eq-eqb b (2 ^ 64 - z) (omega arith), eq-eqb a 0 (omega arith))
-
-  pub bytes-some : a ≤ b → b - a < 2 ^ 64 - z → (b - a) / z * z ≡ b - a → gives (b - a + z) ≡ bytes-outcome
-  unfolding len_through
-  bytes-some h k e =
-      let v : ((b - a) / z + 1) * z ≡ b - a + z = add-mul ((b - a) / z) 1 z ∙ omega arith in
-      by_cases (ℕ_discrete b (2 ^ 64 - z)) (λ q. simp (eq-eqb b (2 ^ 64 - z) q, ne_eqb a 0 (λ u. omega arith), le-ltb b a h, v))
-      (λ q. simp (ne_eqb b (2 ^ 64 - z) q, le-ltb b a h, v))

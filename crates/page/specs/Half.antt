@@ -22,10 +22,10 @@ pub record StartsHighHalf (w : ℕ) (r : RangeInclusive Page) : Type 0 where
 
 pub record DrawnToHalfEnd (w : ℕ) : Type 0 where
   -- its last page is drawn from the front; that draw, and each with n ≥ `len`, sets start on it and end one page below it
-  pub front : (r : RangeInclusive Page) (n : ℕ) → EndsLowHalf w r → len_inclusive r ≡ n + 1 → (nth_inclusive_of w r n).answer ≡ gives (item (start r.end) (bytes r.start))
-  pub front-left : (r : RangeInclusive Page) (n : ℕ) → EndsLowHalf w r → len_inclusive r ≤ n + 1
+  pub front : (r : RangeInclusive Page) (n : ℕ) → EndsLowHalf w r → len_inclusive w r ≡ n + 1 → (nth_inclusive_of w r n).answer ≡ gives (item (start r.end) (bytes r.start))
+  pub front-left : (r : RangeInclusive Page) (n : ℕ) → EndsLowHalf w r → len_inclusive w r ≤ n + 1
       → (nth_inclusive_of w r n).range ≡ record { start = page_at r.start.size (start r.end); end = page_at r.end.size (start r.end - bytes r.start) }
   -- its first page is drawn from the back; that draw, and each with n ≥ `len`, sets end on it and start one page above it
-  pub back : (r : RangeInclusive Page) (n : ℕ) → StartsHighHalf w r → len_inclusive r ≡ n + 1 → (nth_back_inclusive_of w r n).answer ≡ gives (item (start r.start) (bytes r.start))
-  pub back-left : (r : RangeInclusive Page) (n : ℕ) → StartsHighHalf w r → len_inclusive r ≤ n + 1
+  pub back : (r : RangeInclusive Page) (n : ℕ) → StartsHighHalf w r → len_inclusive w r ≡ n + 1 → (nth_back_inclusive_of w r n).answer ≡ gives (item (start r.start) (bytes r.start))
+  pub back-left : (r : RangeInclusive Page) (n : ℕ) → StartsHighHalf w r → len_inclusive w r ≤ n + 1
       → (nth_back_inclusive_of w r n).range ≡ record { start = page_at r.start.size (start r.start + bytes r.start); end = page_at r.end.size (start r.start) }

@@ -1,5 +1,5 @@
 -- What the calls on ranges of pages answer, over the width `w`. A draw answers the page, none or the refusal's number, and the range left; on a refusal that is the
--- range taken. The sentences are those of document 01, "Ranges"; those of document 02 stand at page_draw `Draws`.
+-- range taken. The sentences are those of document 01, "Ranges"; those of document 02 on draws stand at page_draw `Draws`.
 use Rattle.std.specs.Prelude.{ℕ, ◌≤◌, ◌<◌, ◌≡◌, List, eqb, Result}
 use Rattle.std.proofs.Math.Option.{Option}
 use Rattle.answer.specs.Outcome.{Outcome, gives, unless}
@@ -7,7 +7,7 @@ use Rattle.answer.specs.Answers.{outcome_of}
 use Rattle.answer.specs.Refusal.{sizes_differ}
 use Rattle.answer.specs.declared.refusal.Refusal.{Refusal}
 use Rattle.laws.specs.Width.{InOneHalf}
-use Rattle.laws.specs.Run.{len_below, len_through, pages_below, pages_through}
+use Rattle.laws.specs.Run.{pages_below, pages_through, page_len_below, page_len_through}
 use Rattle.laws.specs.Drawing.{Side, front, back, Drawn}
 use Rattle.laws.specs.Kind.{Kind, RangeDraw, drawn_of}
 use Rattle.laws.specs.Address.{virt}
@@ -73,18 +73,19 @@ IsInOneHalf w r = IsAccepted w r × InOneHalf w (start r.start) (start r.end)
 abbrev pub IsInOneHalfInclusive : ℕ → RangeInclusive Page → Type 0
 IsInOneHalfInclusive w r = IsAcceptedInclusive w r × InOneHalf w (start r.start) (start r.end)
 
--- "An exclusive range is empty if start ≥ end, an inclusive one if start > end"; `len`
+-- "An exclusive range is empty if start ≥ end, an inclusive one if start > end"
 abbrev pub IsEmpty : Range Page → Type 0
 IsEmpty r = start r.end ≤ start r.start
 
 abbrev pub IsEmptyInclusive : RangeInclusive Page → Type 0
 IsEmptyInclusive r = start r.end < start r.start
 
-abbrev pub len : Range Page → ℕ
-len r = len_below (start r.start) (start r.end) (bytes r.start)
+-- how many pages a range has: "From now on `len` of a page range is the number of real pages" (document 02, request Three)
+abbrev pub len : ℕ → Range Page → ℕ
+len w r = page_len_below w (start r.start) (start r.end) (bytes r.start)
 
-abbrev pub len_inclusive : RangeInclusive Page → ℕ
-len_inclusive r = len_through (start r.start) (start r.end) (bytes r.start)
+abbrev pub len_inclusive : ℕ → RangeInclusive Page → ℕ
+len_inclusive w r = page_len_through w (start r.start) (start r.end) (bytes r.start)
 
 -- a draw as what it gives and leaves; "`next` and `next_back` are n = 0"
 abbrev pub nth_from : ℕ → Side → ℕ → Range Page → Option (Drawn (Range Page))

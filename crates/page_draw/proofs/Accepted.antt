@@ -21,6 +21,8 @@ pub record Accepted (w a y b z : ℕ) : Type 0 where
   pub ends : PageEnds w y a b
   pub whole : a % y ≡ 0
   pub last-whole : b % y ≡ 0
+  pub first-address : sign_extend w a ≡ a
+  pub last-address : sign_extend w b ≡ b
 
 module _ (v : Width) (a : ℕ) (s : PageSize) (b : ℕ) (t : PageSize) (r : items_refusal (virt (width_of v)) a (bytes_of s) b (bytes_of t) ≡ 0) where
   pub accepted : Accepted (width_of v) a (bytes_of s) b (bytes_of t)
@@ -41,6 +43,8 @@ module _ (v : Width) (a : ℕ) (s : PageSize) (b : ℕ) (t : PageSize) (r : item
         ends = page-ends w (power_of s) a b (widths v) (omega arith) fa fb ca cb p.1 zb;
         whole = p.1;
         last-whole = zb;
+        first-address = ca;
+        last-address = cb;
       }
 
   -- a page fits into the gap

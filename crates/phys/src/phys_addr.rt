@@ -2,7 +2,7 @@
 ghost use Rattle.std.specs.Prelude.{◌≡◌, ◌%◌};
 ghost use Rattle.answer.specs.Answers.{u64_of, bool_of};
 ghost use Rattle.laws.specs.Address.{phys, phys_size, address, is_null, is_aligned, plus, minus, distance, align_down_phys, align_up_phys};
-ghost use Rattle.laws.proofs.Item.{phys-argument};
+ghost use Rattle.laws.proofs.Item.{phys-argument, phys-position};
 ghost use Rattle.phys.specs.Answers.{phys_of};
 
 use address::Addresses;
@@ -24,6 +24,8 @@ impl Addresses for Physical {
 
     ghost numbered = { λ _. phys-argument 52 };
 
+    ghost positions_fit = { λ _. phys-position };
+
     fn holds(self, addr: u64) -> bool {
         addr < PHYS_SIZE
     }
@@ -34,6 +36,10 @@ impl Addresses for Physical {
 
     fn result_refusal(self) -> Refusal {
         Refusal::ResultNotPhysical
+    }
+
+    fn position(self, addr: u64) -> u64 {
+        addr
     }
 }
 

@@ -15,6 +15,11 @@ bounds Size4KiB = record { above = lit≤ tt; below = lit≤ tt }
 bounds Size2MiB = record { above = lit≤ tt; below = lit≤ tt }
 bounds Size1GiB = record { above = lit≤ tt; below = lit≤ tt }
 
+pub bytes_within : (s : PageSize) → (0 < bytes_of s) × (bytes_of s ≤ 2 ^ 30)
+bytes_within Size4KiB = (lit≤ tt, lit≤ tt)
+bytes_within Size2MiB = (lit≤ tt, lit≤ tt)
+bytes_within Size1GiB = (lit≤ tt, lit≤ tt)
+
 -- more pages than have room in 64 bits, and no more
 pub past_count : (s : PageSize) (n : ℕ) → 18446744073709551615 / bytes_of s < n → 2 ^ 64 ≤ n * bytes_of s
 past_count Size4KiB n h = omega arith
