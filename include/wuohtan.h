@@ -153,7 +153,8 @@ uint8_t wuohtan_page_steps_between_u64(uint64_t start, uint64_t size, uint64_t e
 /* Ranges: a start and an end, each with its size in bytes, handed in by value. A range is answered by
  * two words, start and end. A draw is answered by four: 1 if there is an item and 0 if there is none,
  * the item's start (0 if there is none), and start and end of the range left. A refused draw answers
- * nothing: the range left is the one handed in. An inclusive range holds its end. */
+ * nothing: the range left is the one handed in. An inclusive range holds its end. From a low start to a
+ * high end len and size count the pages of both halves, and none for the gap between them. */
 uint8_t wuohtan_page_range_new(uint64_t start, uint64_t start_size, uint64_t end, uint64_t end_size, uint64_t *out,
                                size_t len);
 uint8_t wuohtan_page_range_is_empty(uint64_t start, uint64_t start_size, uint64_t end, uint64_t end_size,

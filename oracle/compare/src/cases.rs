@@ -138,7 +138,7 @@ pub const CASES: &[Case] = &[
         &OVER_THE_GAP,
         DRAW_MEETS_GAP,
     ),
-    gives("K", "page_range_len", &IN_CASE_K, &[0xf_fff0_0000_0003]),
+    gives("K", "page_range_len", &IN_CASE_K, &[3]),
     gives("K", "page_range_next", &IN_CASE_K, FRONT_IN_CASE_K),
     gives("K", "page_range_nth", &with(IN_CASE_K, 0), FRONT_IN_CASE_K),
     ends("K", "page_range_nth", &with(IN_CASE_K, 1), DRAW_MEETS_GAP),
@@ -184,6 +184,32 @@ pub const CASES: &[Case] = &[
     not_displaced(&[LAST_LOW - GREATEST + 1, GREATEST], RESULT_NOT_CANONICAL),
     displaced(&[FIRST_HIGH + (1 << 31), LEAST], &[FIRST_HIGH]),
     not_displaced(&[FIRST_HIGH + (1 << 31) - 1, LEAST], RESULT_NOT_CANONICAL),
+    counted("page_range_size", &IN_CASE_K, &[0x3000]),
+    counted("page_range_inclusive_len", &WHOLE, &[1 << 36]),
+    counted("page_range_inclusive_size", &WHOLE, &[1 << 48]),
+    counted("page_range_inclusive_size", &WHOLE_2MIB, &[1 << 48]),
+    counted("page_range_inclusive_size", &WHOLE_1GIB, &[1 << 48]),
+    counted("page_range_len", &WHOLE, &[(1 << 36) - 1]),
+    counted("page_range_size", &WHOLE, &[(1 << 48) - 0x1000]),
+    counted("page_range_len", &OVER_THE_GAP, &[1]),
+    counted("page_range_size", &OVER_THE_GAP, &[0x1000]),
+    counted("page_range_inclusive_len", &OVER_THE_GAP, &[2]),
+    counted("page_range_inclusive_size", &OVER_THE_GAP, &[0x2000]),
+    counted("page_range_len", &FROM_HIGH_TO_LOW, &[0]),
+    counted("page_range_inclusive_len", &FROM_HIGH_TO_LOW, &[0]),
+    counted("phys_frame_range_inclusive_size", &ALL_FRAMES, &[1 << 52]),
+    ends(
+        "request Three",
+        "page_range_nth",
+        &with(IN_CASE_K, 3),
+        DRAW_MEETS_GAP,
+    ),
+    ends(
+        "request Three",
+        "page_range_nth_back",
+        &with(IN_CASE_K, 3),
+        DRAW_MEETS_GAP,
+    ),
 ];
 
 const LAST_PAGE: u64 = 0xffff_ffff_ffff_f000;
@@ -196,6 +222,11 @@ const LEFT_IN_CASE_J: &[u64] = &[1, LAST_LOW_PAGE, LAST_LOW_PAGE, 0x7fff_ffff_e0
 const FIRST_HIGH_PAGE: [u64; 4] = [FIRST_HIGH, SIZE_4KIB, FIRST_HIGH, SIZE_4KIB];
 const LEFT_OF_FIRST_HIGH: &[u64] = &[1, FIRST_HIGH, FIRST_HIGH + 0x1000, FIRST_HIGH];
 const OVER_THE_GAP: [u64; 4] = [LAST_LOW_PAGE, SIZE_4KIB, FIRST_HIGH, SIZE_4KIB];
+const FROM_HIGH_TO_LOW: [u64; 4] = [FIRST_HIGH, SIZE_4KIB, LAST_LOW_PAGE, SIZE_4KIB];
+const WHOLE: [u64; 4] = [0, SIZE_4KIB, LAST_PAGE, SIZE_4KIB];
+const WHOLE_2MIB: [u64; 4] = [0, SIZE_2MIB, SIZE_2MIB.wrapping_neg(), SIZE_2MIB];
+const WHOLE_1GIB: [u64; 4] = [0, SIZE_1GIB, SIZE_1GIB.wrapping_neg(), SIZE_1GIB];
+const ALL_FRAMES: [u64; 4] = [0, SIZE_4KIB, LAST_FRAME, SIZE_4KIB];
 const START_IN_CASE_K: u64 = 0x7fff_ffff_e000;
 const END_IN_CASE_K: u64 = 0xffff_8000_0000_1000;
 const IN_CASE_K: [u64; 4] = [START_IN_CASE_K, SIZE_4KIB, END_IN_CASE_K, SIZE_4KIB];
@@ -249,6 +280,11 @@ const fn displaced(args: &'static [u64], sum: &'static [u64]) -> Case {
 /// An address and a displacement of request Two that are refused.
 const fn not_displaced(args: &'static [u64], status: u8) -> Case {
     ends("request Two", ADD_SIGNED, args, status)
+}
+
+/// A range of request Three, with its length or its size.
+const fn counted(operation: &'static str, range: &'static [u64], count: &'static [u64]) -> Case {
+    gives("request Three", operation, range, count)
 }
 
 /// The cases of this operation.

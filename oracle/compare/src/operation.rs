@@ -1,6 +1,6 @@
 //! An operation: one row of the comparison, with its three sides.
 
-use crate::answer::Answer;
+use crate::answer::{Answer, DRAW_MEETS_GAP, OVERFLOW};
 use crate::kind::Kind;
 use crate::model;
 use crate::port::Function;
@@ -26,11 +26,48 @@ pub struct Operation {
 
 pub type Model = fn(&[u64]) -> Answer;
 
-/// Document 01 alone where document 02 has changed answers, and so the Rust. Document 02 answers what was
-/// refused by this number; whatever else was answered or refused is as before.
+/// Document 01 alone where document 02 has changed answers, and so the Rust.
 pub struct Before {
-    pub refusal: u8,
+    /// Whether these are an answer of before, the second, and today's, the third, of arguments that no call
+    /// refuses.
+    pub agrees: fn(&[u64], Answer, Answer) -> bool,
     pub model: Model,
+}
+
+/// Request One answers the draws that were refused 10 of ranges in one half, and no others.
+pub fn gap_was_met(args: &[u64], before: Answer, today: Answer) -> bool {
+    let [is_start_low, is_end_low] = ends_are_low(args);
+    let changes = is_start_low == is_end_low && before == Answer::refused(DRAW_MEETS_GAP);
+    (before != today) == changes
+}
+
+/// How many numbers are in the gap.
+const GAP: u64 = ((1 << 64) - (1u128 << 48)) as u64;
+
+/// Before request Three `len` counted the pages too for which the gap has room.
+pub fn pages_of_gap_were_counted(args: &[u64], before: Answer, today: Answer) -> bool {
+    before == with_gap(args, today, GAP / args[1])
+}
+
+/// Before request Three `size` counted the gap too, and refused 2^64.
+pub fn gap_was_counted(args: &[u64], before: Answer, today: Answer) -> bool {
+    before == with_gap(args, today, GAP)
+}
+
+/// The answer, with so many more of a range over the gap.
+fn with_gap(args: &[u64], answer: Answer, more: u64) -> Answer {
+    match (ends_are_low(args), answer.as_words()) {
+        ([true, false], [count]) => match count.checked_add(more) {
+            Some(sum) => Answer::words(&[sum]),
+            None => Answer::refused(OVERFLOW),
+        },
+        _ => answer,
+    }
+}
+
+/// Of a range of pages, whether start and end are low.
+fn ends_are_low(args: &[u64]) -> [bool; 2] {
+    [args[0], args[2]].map(|address| address < 1 << 47)
 }
 
 impl Operation {
@@ -44,28 +81,26 @@ impl Operation {
     }
 
     pub fn ask_model(&self, args: &[u64]) -> Answer {
-        self.unless_refused(args, self.model)
-    }
-
-    /// What the Rust is to answer: as the model, but where that answers what was refused before.
-    pub fn ask_before(&self, args: &[u64]) -> Answer {
-        let model = self.ask_model(args);
-        let Some(before) = &self.before else {
-            return model;
-        };
-        let answer = self.unless_refused(args, before.model);
-        assert!(
-            answer == model || answer == Answer::refused(before.refusal),
-            "{} {args:x?}: before {answer}, today {model}",
-            self.name
-        );
-        answer
-    }
-
-    fn unless_refused(&self, args: &[u64], model: Model) -> Answer {
         match model::refused_argument(self.kinds, args) {
             Some(number) => Answer::refused(number),
-            None => model(args),
+            None => (self.model)(args),
+        }
+    }
+
+    /// What the Rust is to answer: as the model, but where document 02 has changed that.
+    pub fn ask_before(&self, args: &[u64]) -> Answer {
+        let model = self.ask_model(args);
+        match &self.before {
+            Some(before) if model::refused_argument(self.kinds, args).is_none() => {
+                let answer = (before.model)(args);
+                assert!(
+                    (before.agrees)(args, answer, model),
+                    "{} {args:x?}: before {answer}, today {model}",
+                    self.name
+                );
+                answer
+            }
+            _ => model,
         }
     }
 }
@@ -73,8 +108,7 @@ impl Operation {
 /// A row. Each argument has a name for each of its numbers, and its kind. The ways of the Rust take
 /// the arguments in their own types, made by the Rust's own constructors; the model takes the plain
 /// numbers. `sizes` names the number that chooses the type `S` in the ways, and the sizes at which
-/// the Rust has them. `before` names the refusal that document 02 has taken back, and the model of
-/// document 01 alone.
+/// the Rust has them. `before` names what document 02 has changed, and the model of document 01 alone.
 #[macro_export]
 macro_rules! operation {
     (
@@ -83,7 +117,7 @@ macro_rules! operation {
         sizes $sizes:tt,
         rust [$first:expr $(, $other:expr)*],
         $(panics $panics:path,)?
-        $(before $refusal:ident $before:path,)?
+        $(before $agrees:ident $before:path,)?
         model $model:path
     ) => {
         $crate::operation::Operation {
@@ -97,7 +131,7 @@ macro_rules! operation {
             ],
             panics: $crate::panics!($($panics)?),
             timed: $crate::timed!($first, $params, $sizes),
-            before: $crate::before!($params $($refusal $before)?),
+            before: $crate::before!($params $($agrees $before)?),
             model: |args| $crate::model!($model, args, $params),
         }
     };
@@ -194,9 +228,9 @@ macro_rules! before {
     ($params:tt) => {
         None
     };
-    ($params:tt $refusal:ident $before:path) => {
+    ($params:tt $agrees:ident $before:path) => {
         Some($crate::operation::Before {
-            refusal: $crate::answer::$refusal,
+            agrees: $crate::operation::$agrees,
             model: |args| $crate::model!($before, args, $params),
         })
     };

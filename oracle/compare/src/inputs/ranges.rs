@@ -91,8 +91,8 @@ fn in_space(kind: Kind, number: u64) -> u64 {
     }
 }
 
-/// 0, the items from start up to the gap, those from the first high page up to end, all that there
-/// are from start to end, as many without the gap, and as many as have 2^64 bytes.
+/// 0, the items from start up to the gap, those from the first high page up to end, as many as have room
+/// from start to end, as many without the gap, and as many as have 2^64 bytes.
 fn ends(start: u64, size: u64, end: u64) -> [u64; 6] {
     let distance = end.wrapping_sub(start);
     [

@@ -25,18 +25,6 @@ enum Rules {
     Today,
 }
 
-impl Rules {
-    /// Request One speaks of ranges whose start and end are in one half; of others today's rules are those
-    /// of before, and the Rust is held to them.
-    fn of_range(self, start: u128, end: u128) -> Rules {
-        if in_low_half(start, end) || in_high_half(start, end) {
-            self
-        } else {
-            Rules::Today
-        }
-    }
-}
-
 const FIRST_HIGH: u128 = power(64) - power(47);
 
 fn in_low_half(start: u128, end: u128) -> bool {
@@ -65,15 +53,35 @@ impl Range {
         }
     }
 
-    /// On the raw numbers: across the gap it counts the gap.
+    /// Of document 01 on the raw numbers: across the gap it counts the gap. Document 02, request Three: of
+    /// pages by low48.
     fn len(self) -> u128 {
         if self.is_empty() {
             return 0;
         }
-        let between = (self.end - self.start) / self.size;
+        let between = (self.position(self.end) - self.position(self.start)) / self.size;
         match self.bound {
             Bound::Exclusive => between,
             Bound::Inclusive => between + 1,
+        }
+    }
+
+    /// How many addresses are below this one, as lengths count them.
+    fn position(self, address: u128) -> u128 {
+        match (self.items, self.rules) {
+            (Items::Pages, Rules::Today) => address % power(48),
+            _ => address,
+        }
+    }
+
+    /// The item so many on from the start.
+    fn item(self, n: u128) -> u128 {
+        let position = self.position(self.start) + n * self.size;
+        match (self.items, self.rules) {
+            (Items::Pages, Rules::Today) if position >= power(47) => {
+                position + (power(64) - power(48))
+            }
+            _ => position,
         }
     }
 
@@ -164,11 +172,10 @@ impl Range {
         if self.front_meets_gap(n) {
             return Answer::refused(DRAW_MEETS_GAP);
         }
-        let last = self.start + (self.len() - 1) * self.size;
         if n >= self.len() {
-            return drawn(None, self.past(last));
+            return drawn(None, self.past(self.item(self.len() - 1)));
         }
-        let item = self.start + n * self.size;
+        let item = self.item(n);
         drawn(Some(item), self.past(item))
     }
 
@@ -182,16 +189,15 @@ impl Range {
         if n >= self.len() {
             return drawn(None, self.below(self.start));
         }
-        let item = self.start + (self.len() - 1 - n) * self.size;
+        let item = self.item(self.len() - 1 - n);
         drawn(Some(item), self.below(item))
     }
 
     fn size(self) -> Answer {
         let bytes = self.len() * self.size;
-        if bytes >= power(64) {
-            Answer::refused(OVERFLOW)
-        } else {
-            answered(bytes)
+        match self.rules {
+            Rules::Document01 if bytes >= power(64) => Answer::refused(OVERFLOW),
+            _ => answered(bytes),
         }
     }
 
@@ -221,7 +227,7 @@ macro_rules! functions {
 
             fn range(start: u128, size: u128, end: u128) -> Range {
                 Range {
-                    rules: Rules::$rules.of_range(start, end),
+                    rules: Rules::$rules,
                     items: Items::$items,
                     bound: Bound::$bound,
                     size,
@@ -267,6 +273,7 @@ macro_rules! functions {
 
 functions! {
     page_range: Exclusive Pages Today;
+    page_range_before: Exclusive Pages Document01;
     page_range_inclusive: Inclusive Pages Today;
     page_range_inclusive_before: Inclusive Pages Document01;
     phys_frame_range: Exclusive Frames Today;

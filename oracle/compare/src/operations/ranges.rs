@@ -35,6 +35,7 @@ pub const PAGE_RANGE: &[Operation] = &[
             |range: PageRange<S>| range.len(),
             |range: PageRange<S>| range.size_hint().0
         ],
+        before pages_of_gap_were_counted ranges::page_range_before::len,
         model ranges::page_range::len
     },
     operation! {
@@ -42,6 +43,7 @@ pub const PAGE_RANGE: &[Operation] = &[
         port wuohtan_page_range_size,
         sizes (start_size: Size4KiB Size2MiB Size1GiB),
         rust [|range: PageRange<S>| range.size()],
+        before gap_was_counted ranges::page_range_before::size,
         model ranges::page_range::size
     },
     operation! {
@@ -114,6 +116,7 @@ pub const PAGE_RANGE_INCLUSIVE: &[Operation] = &[
             |range: PageRangeInclusive<S>| range.len(),
             |range: PageRangeInclusive<S>| range.size_hint().0
         ],
+        before pages_of_gap_were_counted ranges::page_range_inclusive_before::len,
         model ranges::page_range_inclusive::len
     },
     operation! {
@@ -121,6 +124,7 @@ pub const PAGE_RANGE_INCLUSIVE: &[Operation] = &[
         port wuohtan_page_range_inclusive_size,
         sizes (start_size: Size4KiB Size2MiB Size1GiB),
         rust [|range: PageRangeInclusive<S>| range.size()],
+        before gap_was_counted ranges::page_range_inclusive_before::size,
         model ranges::page_range_inclusive::size
     },
     operation! {
@@ -132,7 +136,7 @@ pub const PAGE_RANGE_INCLUSIVE: &[Operation] = &[
             |range: PageRangeInclusive<S>| drawn(range, |range| range.nth(0))
         ],
         panics refusal_of_draw,
-        before DRAW_MEETS_GAP ranges::page_range_inclusive_before::next,
+        before gap_was_met ranges::page_range_inclusive_before::next,
         model ranges::page_range_inclusive::next
     },
     operation! {
@@ -141,7 +145,7 @@ pub const PAGE_RANGE_INCLUSIVE: &[Operation] = &[
         sizes (start_size: Size4KiB Size2MiB Size1GiB),
         rust [|range: PageRangeInclusive<S>, n| drawn(range, |range| range.nth(n))],
         panics refusal_of_draw,
-        before DRAW_MEETS_GAP ranges::page_range_inclusive_before::nth,
+        before gap_was_met ranges::page_range_inclusive_before::nth,
         model ranges::page_range_inclusive::nth
     },
     operation! {
@@ -153,7 +157,7 @@ pub const PAGE_RANGE_INCLUSIVE: &[Operation] = &[
             |range: PageRangeInclusive<S>| drawn(range, |range| range.nth_back(0))
         ],
         panics refusal_of_draw,
-        before DRAW_MEETS_GAP ranges::page_range_inclusive_before::next_back,
+        before gap_was_met ranges::page_range_inclusive_before::next_back,
         model ranges::page_range_inclusive::next_back
     },
     operation! {
@@ -162,7 +166,7 @@ pub const PAGE_RANGE_INCLUSIVE: &[Operation] = &[
         sizes (start_size: Size4KiB Size2MiB Size1GiB),
         rust [|range: PageRangeInclusive<S>, n| drawn(range, |range| range.nth_back(n))],
         panics refusal_of_draw,
-        before DRAW_MEETS_GAP ranges::page_range_inclusive_before::nth_back,
+        before gap_was_met ranges::page_range_inclusive_before::nth_back,
         model ranges::page_range_inclusive::nth_back
     },
 ];
