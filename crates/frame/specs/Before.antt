@@ -11,7 +11,6 @@ use Rattle.laws.specs.Range.{count_below, count_through, bytes_below, bytes_thro
 use Rattle.range.specs.Ranges as ranges
 use Rattle.range.specs.declared.range.Range.{Range}
 use Rattle.range.specs.declared.range_inclusive.RangeInclusive.{RangeInclusive}
-use Rattle.frame.specs.Frame.{start, bytes}
 use Rattle.frame.specs.Range.{frames, top_frame, frame_draw, nth_of, nth_back_of, nth_inclusive_of, nth_back_inclusive_of}
 use Rattle.frame.specs.declared.frame.PhysFrame.{PhysFrame}
 
@@ -33,9 +32,9 @@ pub record AsBefore : Type 0 where
   pub nth-inclusive : (r : RangeInclusive PhysFrame) (n : ℕ) → nth_inclusive_of r n ≡ ranges.nth_inclusive_of frames nth_through r n
   pub nth-back-inclusive : (r : RangeInclusive PhysFrame) (n : ℕ) → nth_back_inclusive_of r n ≡ ranges.nth_inclusive_of frames nth_back_through r n
 
--- what a call answers of a range from `x` to `y`
+-- what a call answers of the range from `x` to `y`
 abbrev pub of_ends : (Addresses → ℕ → ℕ → ℕ → ℕ → Outcome ℕ) → PhysFrame → PhysFrame → Outcome ℕ
-of_ends f x y = f (phys 52) (start x) (bytes x) (start y) (bytes y)
+of_ends = ranges.of_ends frames (phys 52)
 
 pub record LengthAsBefore : Type 0 where
   pub len : (r : Range PhysFrame) → of_ends count_below r.start r.end ≡ of_ends before.count_below r.start r.end

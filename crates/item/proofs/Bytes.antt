@@ -1,5 +1,5 @@
 -- The bytes of an inclusive range that is not refused fit 64 bits.
-use Rattle.std.specs.Prelude.{◌≡◌, ℕ, ◌+◌, ◌*◌, ◌^◌, ◌≤◌, ◌<◌, ◌≢◌, true, max}
+use Rattle.std.specs.Prelude.{◌≡◌, ℕ, ◌*◌, ◌^◌, ◌<◌, ◌≢◌, true}
 use Rattle.std.proofs.Common.{arith}
 use Rattle.laws.specs.Address.{Addresses}
 use Rattle.laws.specs.Item.{items_refusal}

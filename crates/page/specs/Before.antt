@@ -1,8 +1,7 @@
 -- Draws, `len` and `size` of ranges of pages as document 01 alone has them (laws `Before`), and what is as before: "Every draw answered before answers as before" (document 02,
 -- request One); `len` and `size` of every range but those over the gap (request Three). What these requests have not changed is shared with today's definitions.
 use Rattle.std.specs.Prelude.{ℕ, ◌+◌, ◌-◌, ◌/◌, ◌^◌, ◌≡◌}
-use Rattle.answer.specs.Outcome.{Outcome, gives}
-use Rattle.laws.specs.Address.{virt}
+use Rattle.answer.specs.Outcome.{gives}
 use Rattle.laws.specs.Width.{InOneHalf, OverGap}
 use Rattle.laws.specs.Run.{pages_below, pages_through}
 use Rattle.laws.specs.Draw as draw
@@ -16,7 +15,7 @@ use Rattle.page.specs.Page.{start, bytes}
 use Rattle.page.specs.Range as now
 use Rattle.page.specs.Range.{pages, refusal}
 use Rattle.page.specs.Gap.{Exactly, meets_gap}
-use Rattle.page.specs.Length as lengths
+use Rattle.page.specs.Length.{of_ends, len_of, len_inclusive_of, size_of, size_inclusive_of}
 use Rattle.page.specs.declared.page.Page.{Page}
 
 -- on the numbers of a range, as in page_draw `Draws`, with the length of document 01, which counts the gap
@@ -66,30 +65,19 @@ pub record LengthChangesNoDraw (w : ℕ) : Type 0 where
   pub nth-inclusive : (r : RangeInclusive Page) (n : ℕ) → now.nth_inclusive_of w r n ≡ ranges.nth_inclusive_of pages (counted_through w) r n
   pub nth-back-inclusive : (r : RangeInclusive Page) (n : ℕ) → now.nth_back_inclusive_of w r n ≡ ranges.nth_inclusive_of pages (counted_back_through w) r n
 
-abbrev pub len_of : ℕ → Range Page → Outcome ℕ
-len_of w r = before.count_below (virt w) (start r.start) (bytes r.start) (start r.end) (bytes r.end)
-
-abbrev pub len_inclusive_of : ℕ → RangeInclusive Page → Outcome ℕ
-len_inclusive_of w r = before.count_through (virt w) (start r.start) (bytes r.start) (start r.end) (bytes r.end)
-
-abbrev pub size_of : ℕ → Range Page → Outcome ℕ
-size_of w r = before.bytes_below (virt w) (start r.start) (bytes r.start) (start r.end) (bytes r.end)
-
-abbrev pub size_inclusive_of : ℕ → RangeInclusive Page → Outcome ℕ
-size_inclusive_of w r = before.bytes_through (virt w) (start r.start) (bytes r.start) (start r.end) (bytes r.end)
-
 -- a range from a low start to a high end that is not refused
 pub record IsOverGap (w : ℕ) (x y : Page) : Type 0 where
   pub given : refusal w x y ≡ 0
   pub over : OverGap w (start x) (start y)
 
--- `len` and `size` are as before everywhere but over the gap, so also of a range that is empty or refused. Over the gap `len` counted the gap too.
+-- `len` and `size` are as before everywhere but over the gap, so also of a range that is empty or refused
 pub record LengthAsBefore (w : ℕ) : Type 0 where
-  pub len : (r : Range Page) → Exactly (lengths.len_of w r ≡ len_of w r) (IsOverGap w r.start r.end → ⊥)
-  pub len-inclusive : (r : RangeInclusive Page) → Exactly (lengths.len_inclusive_of w r ≡ len_inclusive_of w r) (IsOverGap w r.start r.end → ⊥)
-  pub size : (r : Range Page) → Exactly (lengths.size_of w r ≡ size_of w r) (IsOverGap w r.start r.end → ⊥)
-  pub size-inclusive : (r : RangeInclusive Page) → Exactly (lengths.size_inclusive_of w r ≡ size_inclusive_of w r) (IsOverGap w r.start r.end → ⊥)
+  pub len : (r : Range Page) → Exactly (len_of w r ≡ of_ends w before.count_below r.start r.end) (IsOverGap w r.start r.end → ⊥)
+  pub len-inclusive : (r : RangeInclusive Page) → Exactly (len_inclusive_of w r ≡ of_ends w before.count_through r.start r.end) (IsOverGap w r.start r.end → ⊥)
+  pub size : (r : Range Page) → Exactly (size_of w r ≡ of_ends w before.bytes_below r.start r.end) (IsOverGap w r.start r.end → ⊥)
+  pub size-inclusive : (r : RangeInclusive Page) → Exactly (size_inclusive_of w r ≡ of_ends w before.bytes_through r.start r.end) (IsOverGap w r.start r.end → ⊥)
   -- "Where start and end are in one half", no range is over the gap
   pub in-one-half : (x y : Page) → InOneHalf w (start x) (start y) → IsOverGap w x y → ⊥
-  pub gap-counted : (r : Range Page) → IsOverGap w r.start r.end → len_of w r ≡ gives (now.len w r + (2 ^ 64 - 2 ^ w) / bytes r.start)
-  pub gap-counted-inclusive : (r : RangeInclusive Page) → IsOverGap w r.start r.end → len_inclusive_of w r ≡ gives (now.len_inclusive w r + (2 ^ 64 - 2 ^ w) / bytes r.start)
+  -- over it `len` counted as many pages more as the gap has room for
+  pub gap-counted : (r : Range Page) → IsOverGap w r.start r.end → of_ends w before.count_below r.start r.end ≡ gives (now.len w r + (2 ^ 64 - 2 ^ w) / bytes r.start)
+  pub gap-counted-inclusive : (r : RangeInclusive Page) → IsOverGap w r.start r.end → of_ends w before.count_through r.start r.end ≡ gives (now.len_inclusive w r + (2 ^ 64 - 2 ^ w) / bytes r.start)

@@ -2,25 +2,31 @@
 -- inclusive. `size` follows it .. and `size` has no refusal 5 left" (document 02, request Three).
 use Rattle.std.specs.Prelude.{ℕ, ◌+◌, ◌*◌, ◌≤◌, ◌≡◌, length}
 use Rattle.answer.specs.Outcome.{Outcome, gives, refuses, and_then}
-use Rattle.laws.specs.Address.{virt}
+use Rattle.laws.specs.Address.{Addresses, virt}
 use Rattle.laws.specs.Range.{count_below, count_through, bytes_below, bytes_through}
+use Rattle.range.specs.Ranges as ranges
 use Rattle.range.specs.declared.range.Range.{Range}
 use Rattle.range.specs.declared.range_inclusive.RangeInclusive.{RangeInclusive}
 use Rattle.page.specs.Page.{start, bytes, page_steps}
-use Rattle.page.specs.Range.{refusal, pages_of, pages_inclusive_of, IsAccepted, IsAcceptedInclusive, IsEmpty, IsEmptyInclusive}
+use Rattle.page.specs.Range.{pages, refusal, pages_of, pages_inclusive_of, IsAccepted, IsAcceptedInclusive, IsEmpty, IsEmptyInclusive}
 use Rattle.page.specs.declared.page.Page.{Page}
 
+-- what a call answers of the range from `x` to `y`
+abbrev pub of_ends : ℕ → (Addresses → ℕ → ℕ → ℕ → ℕ → Outcome ℕ) → Page → Page → Outcome ℕ
+of_ends w = ranges.of_ends pages (virt w)
+
+-- `len` and `size`
 abbrev pub len_of : ℕ → Range Page → Outcome ℕ
-len_of w r = count_below (virt w) (start r.start) (bytes r.start) (start r.end) (bytes r.end)
+len_of w r = of_ends w count_below r.start r.end
 
 abbrev pub len_inclusive_of : ℕ → RangeInclusive Page → Outcome ℕ
-len_inclusive_of w r = count_through (virt w) (start r.start) (bytes r.start) (start r.end) (bytes r.end)
+len_inclusive_of w r = of_ends w count_through r.start r.end
 
 abbrev pub size_of : ℕ → Range Page → Outcome ℕ
-size_of w r = bytes_below (virt w) (start r.start) (bytes r.start) (start r.end) (bytes r.end)
+size_of w r = of_ends w bytes_below r.start r.end
 
 abbrev pub size_inclusive_of : ℕ → RangeInclusive Page → Outcome ℕ
-size_inclusive_of w r = bytes_through (virt w) (start r.start) (bytes r.start) (start r.end) (bytes r.end)
+size_inclusive_of w r = of_ends w bytes_through r.start r.end
 
 -- the steps from the start to the end, by pages, as `steps_between_u64` answers them
 abbrev pub steps_of : ℕ → Page → Page → Outcome ℕ

@@ -1,7 +1,9 @@
 -- What the calls on ranges in code stand for.
 use Rattle.std.specs.Prelude.{ℕ, Option, Result}
+use Rattle.answer.specs.Outcome.{Outcome}
 use Rattle.answer.specs.Answers.{optional_of}
 use Rattle.answer.specs.declared.refusal.Refusal.{Refusal}
+use Rattle.laws.specs.Address.{Addresses}
 use Rattle.laws.specs.Kind.{Kind, GuardedDraw, RangeDraw, drawn}
 use Rattle.laws.specs.Range.{Ends, ends}
 use Rattle.range.specs.declared.range.Range.{Range}
@@ -20,6 +22,10 @@ ends_of k r = ends (k.item r.start) (k.item r.end)
 
 abbrev pub ends_inclusive_of : {T : Type 0} → Kind T → RangeInclusive T → Ends
 ends_inclusive_of k r = ends (k.item r.start) (k.item r.end)
+
+-- what the call `f` of the space `s` answers of the range from `x` to `y`
+abbrev pub of_ends : {T : Type 0} → Kind T → Addresses → (Addresses → ℕ → ℕ → ℕ → ℕ → Outcome ℕ) → T → T → Outcome ℕ
+of_ends k s f x y = f s (k.item x).start (k.item x).bytes (k.item y).start (k.item y).bytes
 
 -- the answer of a draw, and the range left
 abbrev pub answered : {T R : Type 0} → Kind T → Result (Option T) Refusal → R → RangeDraw R

@@ -198,18 +198,8 @@ pub const CASES: &[Case] = &[
     counted("page_range_len", &FROM_HIGH_TO_LOW, &[0]),
     counted("page_range_inclusive_len", &FROM_HIGH_TO_LOW, &[0]),
     counted("phys_frame_range_inclusive_size", &ALL_FRAMES, &[1 << 52]),
-    ends(
-        "request Three",
-        "page_range_nth",
-        &with(IN_CASE_K, 3),
-        DRAW_MEETS_GAP,
-    ),
-    ends(
-        "request Three",
-        "page_range_nth_back",
-        &with(IN_CASE_K, 3),
-        DRAW_MEETS_GAP,
-    ),
+    ends("K", "page_range_nth", &PAST_CASE_K, DRAW_MEETS_GAP),
+    ends("K", "page_range_nth_back", &PAST_CASE_K, DRAW_MEETS_GAP),
 ];
 
 const LAST_PAGE: u64 = 0xffff_ffff_ffff_f000;
@@ -230,6 +220,8 @@ const ALL_FRAMES: [u64; 4] = [0, SIZE_4KIB, LAST_FRAME, SIZE_4KIB];
 const START_IN_CASE_K: u64 = 0x7fff_ffff_e000;
 const END_IN_CASE_K: u64 = 0xffff_8000_0000_1000;
 const IN_CASE_K: [u64; 4] = [START_IN_CASE_K, SIZE_4KIB, END_IN_CASE_K, SIZE_4KIB];
+/// With n as long as the range, which request Three counts.
+const PAST_CASE_K: [u64; 5] = with(IN_CASE_K, 3);
 const FRONT_IN_CASE_K: &[u64] = &[1, START_IN_CASE_K, LAST_LOW_PAGE, END_IN_CASE_K];
 const BACK_IN_CASE_K: &[u64] = &[1, FIRST_HIGH, START_IN_CASE_K, FIRST_HIGH];
 
