@@ -1,2 +1,4 @@
 pub mod Widths
 pub mod Displacement
+pub mod Form
+pub mod Steps

@@ -4,7 +4,7 @@ use mathlib.Core.Path.{◌≡◌, refl, sym, ◌∙◌}
 use lib.Dec.{ltb, leb, lit<}
 use native.Mathlib.Omega.{arith}
 use borrow.Author.Tests.{lt-ltb}
-use Rattle.laws.specs.Width.{IsWidth, half, first_high, canonical}
+use Rattle.laws.specs.Width.{IsWidth, PageWidth, half, first_high, canonical}
 use Rattle.laws.proofs.Width.{canonical-low, canonical-from}
 use Rattle.addr.specs.declared.width.Width.{Width}
 use Rattle.addr.specs.declared.width.Width.TheVariants.{Bits48, Bits57}
@@ -35,3 +35,6 @@ module _ (x : Width) (a : ℕ) where
 
   pub high_canonical : (f : ℕ) → f ≡ first_high (width_of x) → half (width_of x) ≤ a → a < 2 ^ 64 → leb f a ≡ canonical (width_of x) a
   high_canonical f e l b = rw e (canonical-from (width_of x) (widths x) a b l)
+
+abbrev pub page-width : Width → PageWidth
+page-width x = record { bits = width_of x; width = widths x; wide = wide x }

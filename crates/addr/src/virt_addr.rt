@@ -2,11 +2,11 @@
 ghost use Rattle.std.specs.Prelude.{◌≡◌};
 ghost use Rattle.answer.specs.Answers.{u64_of, bool_of, steps_of};
 ghost use Rattle.laws.specs.Width.{sign_extend};
-ghost use Rattle.laws.specs.Address.{virt, address, is_null, is_aligned, plus, minus, plus_signed, distance, align_down_virt, align_up_virt, forward_from, backward_from, steps_between, page_offset, table_index};
-ghost use Rattle.table.specs.Answers.{small_of};
+ghost use Rattle.laws.specs.Address.{virt, address, is_null, is_aligned, plus, minus, plus_signed, distance, align_down_virt, align_up_virt, forward_from, backward_from, steps_between, page_offset, table_index, level_index};
+ghost use Rattle.table.specs.Answers.{small_of, small_step_of};
 ghost use Rattle.table.specs.Level.{level_of};
 ghost use Rattle.addr.specs.Answers.{virt_of, virt_step_of};
-ghost use Rattle.addr.specs.Widths.{width_of};
+ghost use Rattle.addr.specs.Widths.{width_of, levels_of};
 
 use crate::width::Width;
 use address::Addresses;
@@ -19,10 +19,24 @@ pub struct VirtAddr(pub u64);
 
 impl Width {
     // The address with this number; 1 if it isn't canonical.
+    pub fn new(self, addr: u64) -> Result<VirtAddr, Refusal>
+        ensures { virt_of result ≡ address (virt (width_of self)) addr }
+    {
+        self.try_new(addr)
+    }
+
+    // The same as `new`, as of `VirtAddr`.
     pub fn try_new(self, addr: u64) -> Result<VirtAddr, Refusal>
         ensures { virt_of result ≡ address (virt (width_of self)) addr }
     {
         self.argument(addr).map(VirtAddr)
+    }
+
+    // The address with the number's low bits: the topmost of them is copied upward.
+    pub fn new_truncate(self, addr: u64) -> VirtAddr
+        ensures { result.0 ≡ sign_extend (width_of self) addr }
+    {
+        VirtAddr(self.truncate(addr))
     }
 
     // The address's number; 1 if it is no address.
@@ -142,12 +156,46 @@ impl Width {
         self.argument(addr.0).map(PageOffset::new_truncate)
     }
 
-    // The address's index into the table of a level.
+    // The address's index into a table of level 1, and so on to level 4. That of level 5, which only 57 bits have, is given by
+    // `page_table_index`.
+    pub fn p1_index(self, addr: VirtAddr) -> Result<PageTableIndex, Refusal>
+        ensures { small_of result ≡ table_index (width_of self) addr.0 1 }
+    {
+        self.index(addr, PageTableLevel::One)
+    }
+
+    pub fn p2_index(self, addr: VirtAddr) -> Result<PageTableIndex, Refusal>
+        ensures { small_of result ≡ table_index (width_of self) addr.0 2 }
+    {
+        self.index(addr, PageTableLevel::Two)
+    }
+
+    pub fn p3_index(self, addr: VirtAddr) -> Result<PageTableIndex, Refusal>
+        ensures { small_of result ≡ table_index (width_of self) addr.0 3 }
+    {
+        self.index(addr, PageTableLevel::Three)
+    }
+
+    pub fn p4_index(self, addr: VirtAddr) -> Result<PageTableIndex, Refusal>
+        ensures { small_of result ≡ table_index (width_of self) addr.0 4 }
+    {
+        self.index(addr, PageTableLevel::Four)
+    }
+
+    // The address's index into a table of any level; none if the width has no such level.
     pub fn page_table_index(
         self,
         addr: VirtAddr,
         level: PageTableLevel,
-    ) -> Result<PageTableIndex, Refusal>
+    ) -> Result<Option<PageTableIndex>, Refusal>
+        ensures { small_step_of result ≡ level_index (width_of self) (levels_of self) addr.0 (level_of level) }
+    {
+        let index = self.index(addr, level)?;
+        Ok(self.has_level(level).then_some(index))
+    }
+
+    // The nine bits of a level, whether the width has it or not.
+    fn index(self, addr: VirtAddr, level: PageTableLevel) -> Result<PageTableIndex, Refusal>
         ensures { small_of result ≡ table_index (width_of self) addr.0 (level_of level) }
     {
         Ok(level.index_of(self.argument(addr.0)?))
@@ -159,7 +207,7 @@ impl VirtAddr {
     pub fn new(addr: u64) -> Result<VirtAddr, Refusal>
         ensures { virt_of result ≡ address (virt 48) addr }
     {
-        Width::Bits48.try_new(addr)
+        Width::Bits48.new(addr)
     }
 
     // The same as `new`: where the source has a `Result` for one and a panic for the other, both refuse.
@@ -173,7 +221,7 @@ impl VirtAddr {
     pub fn new_truncate(addr: u64) -> VirtAddr
         ensures { result.0 ≡ sign_extend 48 addr }
     {
-        VirtAddr(Width::Bits48.truncate(addr))
+        Width::Bits48.new_truncate(addr)
     }
 
     pub fn zero() -> VirtAddr
@@ -267,29 +315,30 @@ impl VirtAddr {
     pub fn p1_index(self) -> Result<PageTableIndex, Refusal>
         ensures { small_of result ≡ table_index 48 self.0 1 }
     {
-        Width::Bits48.page_table_index(self, PageTableLevel::One)
+        Width::Bits48.p1_index(self)
     }
 
     pub fn p2_index(self) -> Result<PageTableIndex, Refusal>
         ensures { small_of result ≡ table_index 48 self.0 2 }
     {
-        Width::Bits48.page_table_index(self, PageTableLevel::Two)
+        Width::Bits48.p2_index(self)
     }
 
     pub fn p3_index(self) -> Result<PageTableIndex, Refusal>
         ensures { small_of result ≡ table_index 48 self.0 3 }
     {
-        Width::Bits48.page_table_index(self, PageTableLevel::Three)
+        Width::Bits48.p3_index(self)
     }
 
     pub fn p4_index(self) -> Result<PageTableIndex, Refusal>
         ensures { small_of result ≡ table_index 48 self.0 4 }
     {
-        Width::Bits48.page_table_index(self, PageTableLevel::Four)
+        Width::Bits48.p4_index(self)
     }
 
-    pub fn page_table_index(self, level: PageTableLevel) -> Result<PageTableIndex, Refusal>
-        ensures { small_of result ≡ table_index 48 self.0 (level_of level) }
+    // None at level 5, which 48 bits do not have.
+    pub fn page_table_index(self, level: PageTableLevel) -> Result<Option<PageTableIndex>, Refusal>
+        ensures { small_step_of result ≡ level_index 48 4 self.0 (level_of level) }
     {
         Width::Bits48.page_table_index(self, level)
     }

@@ -1,18 +1,19 @@
 // The width of virtual addresses, and what depends on it.
-ghost use Rattle.std.specs.Prelude.{◌≡◌, ◌^◌, ◌<◌};
+ghost use Rattle.std.specs.Prelude.{◌≡◌, ◌^◌, ◌<◌, leb};
 ghost use Rattle.std.proofs.Common.{arith};
 ghost use Rattle.laws.specs.Address.{virt};
 ghost use Rattle.laws.specs.Width.{low, half, first_high, sign_extend, canonical};
 ghost use Rattle.laws.proofs.Item.{virt-argument, virt-position};
-ghost use Rattle.addr.specs.Widths.{width_of};
+ghost use Rattle.table.specs.Answers.{level_answer_of};
+ghost use Rattle.table.specs.Level.{level_of, higher};
+ghost use Rattle.addr.specs.Widths.{width_of, levels_of};
 ghost use Rattle.addr.specs.declared.width.Width.TheVariants.{Bits48, Bits57};
 
 use address::Addresses;
 use answer::Refusal;
+use table::PageTableLevel;
 
-// 48 bits with four levels of tables, 57 with five. The names of the source, and all that pages, images
-// and the C interface offer, are at 48 bits; 57 is prepared for boards with five levels, whose fifth
-// index no call gives yet.
+// 48 bits with four levels of tables, 57 with five. The names of the source are at 48 bits.
 #[derive(Clone, Copy, Debug, PartialEq, Eq)]
 pub enum Width {
     Bits48 = 48,
@@ -45,6 +46,30 @@ impl Addresses for Width {
 }
 
 impl Width {
+    // The level of the tables that a walk begins with.
+    pub fn highest_level(self) -> PageTableLevel
+        ensures { level_of result ≡ levels_of self }
+    {
+        match self {
+            Width::Bits48 => PageTableLevel::Four,
+            Width::Bits57 => PageTableLevel::Five,
+        }
+    }
+
+    // Whether the width has tables of this level.
+    pub fn has_level(self, level: PageTableLevel) -> bool
+        ensures { result ≡ leb (level_of level) (levels_of self) }
+    {
+        level.number() <= self.highest_level().number()
+    }
+
+    // The level above; none above the highest.
+    pub fn next_higher_level(self, level: PageTableLevel) -> Option<PageTableLevel>
+        ensures { level_answer_of result ≡ higher (levels_of self) (level_of level) }
+    {
+        level.next_higher_level_up_to(self.highest_level())
+    }
+
     // How many addresses the width has.
     pub fn size(self) -> u64
         ensures { result ≡ 2 ^ width_of self }

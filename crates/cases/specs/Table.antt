@@ -1,15 +1,20 @@
 -- The table of document 01, "Checked by proof", as document 02 amends it, and what its requests name beside that, as one statement about the definitions. What the functions answer
 -- follows from their contracts, which give each answer by the same definitions.
-use Rattle.std.specs.Prelude.{ℕ, ◌-◌, ◌^◌, ◌≡◌, List, [], ◌∷◌, map, pos, negsuc}
+use Rattle.std.specs.Prelude.{ℕ, ◌-◌, ◌^◌, ◌≡◌, true, false, List, [], ◌∷◌, map, pos, negsuc}
 use Rattle.answer.specs.Outcome.{Outcome, gives, none, refuses}
-use Rattle.laws.specs.Width.{sign_extend}
-use Rattle.laws.specs.Address.{virt, phys, plus, plus_signed, align_up_virt, forward_from, steps_between, table_index, page_offset}
+use Rattle.laws.specs.Width.{sign_extend, canonical}
+use Rattle.laws.specs.Index.{span}
+use Rattle.laws.specs.Address.{virt, phys, plus, plus_signed, align_up_virt, forward_from, steps_between, table_index, level_index, page_offset}
 use Rattle.laws.specs.Displacement.{least}
+use Rattle.table.specs.Level.{higher}
 use Rattle.table.specs.declared.size.PageSize.TheVariants.{Size4KiB, Size2MiB}
 use Rattle.laws.specs.Item.{item}
 use Rattle.laws.specs.Range.{count_below, count_through, bytes_through}
 use Rattle.frame.specs.Frame.{pfn_of, from_pfn}
-use Rattle.page.specs.Page.{page_at}
+use Rattle.mapping.specs.Pages.{PageState, rights}
+use Rattle.mapping.specs.Walk.{reserved_bit, maps, table, space_of}
+use Rattle.paging.specs.Entry.{entry}
+use Rattle.page.specs.Page.{page_at, page_of_indices}
 use Rattle.page.specs.Range.{nth_of, nth_back_of, nth_inclusive_of, nth_back_inclusive_of}
 use Rattle.page.specs.Length.{len_of, len_inclusive_of, size_inclusive_of}
 use Rattle.page.specs.declared.page.Page.{Page}
@@ -147,3 +152,63 @@ pub record Table : Type 0 where
       ≡ record { answer = refuses 10; range = exclusive 0x7fff_ffff_e000 0xffff_8000_0000_1000 }
   pub k-back-3 : nth_back_of 48 (exclusive 0x7fff_ffff_e000 0xffff_8000_0000_1000) 3
       ≡ record { answer = refuses 10; range = exclusive 0x7fff_ffff_e000 0xffff_8000_0000_1000 }
+  -- document 02, request Four: A to K at 57 bits, "bits 57 to 63 copy bit 56, the gap lies between 0x00ff_ffff_ffff_ffff and 0xff00_0000_0000_0000"
+  pub a-57 : sign_extend 57 0x100_0000_0000_0000 ≡ 0xff00_0000_0000_0000
+  pub b-forward-57 : forward_from 57 0xff_ffff_ffff_ffff 1 ≡ gives 0xff00_0000_0000_0000
+  pub b-plus-57 : plus (virt 57) 0xff_ffff_ffff_ffff 1 ≡ refuses 6
+  -- "Stepping is bounded by 2^57"
+  pub c-last-57 : forward_from 57 0 (2 ^ 57 - 1) ≡ gives 0xffff_ffff_ffff_ffff
+  pub c-past-57 : forward_from 57 0 (2 ^ 57) ≡ none
+  pub d-steps-57 : steps_between 57 0xff_ffff_ffff_f000 0xff00_0000_0000_0000 ≡ gives 0x1000
+  pub d-back-57 : steps_between 57 0xff00_0000_0000_0000 0xff_ffff_ffff_f000 ≡ none
+  pub e-jump-57 : align_up_virt 57 0xff_ffff_ffff_f001 0x1000 ≡ gives 0xff00_0000_0000_0000
+  pub e-zero-57 : align_up_virt 57 1 (2 ^ 57) ≡ gives 0
+  -- "level 5 has its nine bits from bit 48": indices 256, 0, 0, 1, 3 (decimal), offset 456
+  pub f-level-5-57 : level_index 57 5 0xff00_0000_0020_3456 5 ≡ gives 256
+  pub f-level-4-57 : level_index 57 5 0xff00_0000_0020_3456 4 ≡ gives 0
+  pub f-level-3-57 : level_index 57 5 0xff00_0000_0020_3456 3 ≡ gives 0
+  pub f-level-2-57 : level_index 57 5 0xff00_0000_0020_3456 2 ≡ gives 1
+  pub f-level-1-57 : level_index 57 5 0xff00_0000_0020_3456 1 ≡ gives 3
+  pub f-offset-57 : page_offset 57 0xff00_0000_0020_3456 ≡ gives 0x456
+  -- G and its edges have no width
+  pub h-57 : nth_inclusive_of 57 (inclusive 0xffff_ffff_ffff_f000 0xffff_ffff_ffff_f000) 0
+      ≡ record { answer = gives (item 0xffff_ffff_ffff_f000 0x1000); range = record { start = page 0xffff_ffff_ffff_f000; end = page 0xffff_ffff_ffff_e000 } }
+  pub i-57 : nth_back_inclusive_of 57 (inclusive 0 0) 0 ≡ record { answer = gives (item 0 0x1000); range = inclusive 0x1000 0 }
+  -- J from the front, and its mirror in the high half, stand above as `last-low-57` and `first-high-57`
+  pub j-len-57 : count_through (virt 57) 0xff_ffff_ffff_f000 0x1000 0xff_ffff_ffff_f000 0x1000 ≡ gives 1
+  pub k-len-57 : count_below (virt 57) 0xff_ffff_ffff_e000 0x1000 0xff00_0000_0000_1000 0x1000 ≡ gives 3
+  pub k-nth-0-57 : nth_of 57 (exclusive 0xff_ffff_ffff_e000 0xff00_0000_0000_1000) 0
+      ≡ record { answer = gives (item 0xff_ffff_ffff_e000 0x1000); range = exclusive 0xff_ffff_ffff_f000 0xff00_0000_0000_1000 }
+  pub k-nth-1-57 : nth_of 57 (exclusive 0xff_ffff_ffff_e000 0xff00_0000_0000_1000) 1
+      ≡ record { answer = refuses 10; range = exclusive 0xff_ffff_ffff_e000 0xff00_0000_0000_1000 }
+  pub k-back-0-57 : nth_back_of 57 (exclusive 0xff_ffff_ffff_e000 0xff00_0000_0000_1000) 0
+      ≡ record { answer = gives (item 0xff00_0000_0000_0000 0x1000); range = exclusive 0xff_ffff_ffff_e000 0xff00_0000_0000_0000 }
+  pub k-back-1-57 : nth_back_of 57 (exclusive 0xff_ffff_ffff_e000 0xff00_0000_0000_1000) 1
+      ≡ record { answer = refuses 10; range = exclusive 0xff_ffff_ffff_e000 0xff00_0000_0000_1000 }
+  -- the ends of the gap; the first high address is in the gap of 48 bits
+  pub last-low-canonical-57 : canonical 57 0x00ff_ffff_ffff_ffff ≡ true
+  pub gap-first-57 : canonical 57 0x0100_0000_0000_0000 ≡ false
+  pub gap-last-57 : canonical 57 0xfeff_ffff_ffff_ffff ≡ false
+  pub first-high-canonical-57 : canonical 57 0xff00_0000_0000_0000 ≡ true
+  pub gap-of-48 : canonical 48 0xff00_0000_0000_0000 ≡ false
+  -- 48 bits have no level 5; of a high address of both widths the index there is the last one
+  pub no-level-5 : level_index 48 4 0xffff_8000_0020_3456 5 ≡ none
+  pub no-level-5-refused : level_index 48 4 0x8000_0000_0000 5 ≡ refuses 1
+  pub both-level-5 : level_index 57 5 0xffff_8000_0020_3456 5 ≡ gives 511
+  pub both-level-4 : level_index 57 5 0xffff_8000_0020_3456 4 ≡ gives 256
+  pub above-4 : (higher 4 4 ≡ none) × (higher 5 4 ≡ gives 5) × (higher 5 5 ≡ none)
+  pub span-5 : (span 5 ≡ 2 ^ 57) × (span 4 ≡ 2 ^ 48)
+  -- "and is the first index when a page is assembled", at 2 MiB and 1 GiB too; each index is tested in argument order
+  pub assembled-57 : page_of_indices 57 5 256 0 0 1 3 0x1000 ≡ gives (item 0xff00_0000_0020_3000 0x1000)
+  pub assembled-low-57 : page_of_indices 57 5 255 511 511 511 511 0x1000 ≡ gives (item 0xff_ffff_ffff_f000 0x1000)
+  pub assembled-2-mib-57 : page_of_indices 57 5 1 2 3 4 0 0x20_0000 ≡ gives (item 0x1_0100_c080_0000 0x20_0000)
+  pub assembled-1-gib-57 : page_of_indices 57 5 1 2 3 0 0 0x4000_0000 ≡ gives (item 0x1_0100_c000_0000 0x4000_0000)
+  pub assembled-refused-57 : page_of_indices 57 5 512 600 0 0 0 0x1000 ≡ refuses 9
+  pub assembled-48 : page_of_indices 48 4 0 256 0 1 3 0x1000 ≡ gives (item 0xffff_8000_0020_3000 0x1000)
+  pub assembled-no-level-5 : page_of_indices 48 4 1 256 0 1 3 0x1000 ≡ none
+  pub assembled-refused-48 : (page_of_indices 48 4 512 0 0 0 0 0x1000 ≡ refuses 9) × (page_of_indices 48 4 1 512 0 0 0 0x1000 ≡ refuses 9)
+  -- "level-5 entries follow the rules for level 4": bit 7 is reserved, where level 3 has a page; else a table is named
+  pub bit-7 : (entry 52 true 5 0x81 ≡ reserved_bit) × (entry 52 true 4 0x81 ≡ reserved_bit) × (entry 52 true 3 0x81 ≡ maps 0 (rights false false false))
+  pub named-5 : entry 52 true 5 0x1007 ≡ table 0x1000 (rights true true false)
+  -- "there are 2^45 pages of 4 KiB to agree on", 2^44 in each half
+  pub pages-57 : (page_state : ℕ → PageState) → ((space_of 5 page_state).size ≡ 2 ^ 45) × ((space_of 5 page_state).high ≡ 2 ^ 44)

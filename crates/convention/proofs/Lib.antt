@@ -1,2 +1,4 @@
 pub mod Choice
 pub mod ListCalls
+pub mod Indices
+pub mod Before

@@ -3,3 +3,4 @@ pub mod Choice
 pub mod Ranges
 pub mod Images
 pub mod ListCalls
+pub mod Before

@@ -7,7 +7,7 @@ use Rattle.paging.specs.Translate.{image_refusal}
 use Rattle.paging.specs.List.{Listing, listing}
 use Rattle.paging.specs.ListAgreement.{ChainsAgree}
 use Rattle.status.specs.Status.{answered}
-use Rattle.convention.specs.Images.{LeftList, listed_length, leaves_list}
+use Rattle.convention.specs.Images.{LeftList, listed_length, leaves_list_at}
 
 -- of a call that is answered, its own words: how many answers were written, whether the search is over, and the address of the next page, of 4 KiB; another status is
 -- the number of a refusal. The answers' words are where they were lent
@@ -27,4 +27,4 @@ abbrev pub ListCallsAgree : (w levels : ℕ) → Type 0
 ListCallsAgree w levels =
     (image : List ℕ) (base root : ℕ) → image_refusal image base root ≡ 0
     → (own : ℕ → List ℕ → List ℕ) → ((a : ℕ) (answers : List ℕ) → listed_length ≤ length (own a answers))
-    → ChainsAgree w levels image base root (λ a answers. read_list (leaves_list (listing w levels image base root a answers) answers (own a answers)))
+    → ChainsAgree w levels image base root (λ a answers. read_list (leaves_list_at w (listing w levels image base root a answers) answers (own a answers)))

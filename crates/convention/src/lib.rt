@@ -10,7 +10,8 @@ mod store;
 mod words;
 
 pub use choices::{
-    choose, choose_level, choose_range, choose_range_inclusive, choose_size, saturated,
+    choose, choose_level, choose_page, choose_page_range, choose_page_range_inclusive,
+    choose_range, choose_range_inclusive, choose_size, choose_width, saturated,
 };
 pub use images::{LISTED_WORDS, give_listed, give_search, give_translation};
 pub use items::ItemAt;

@@ -6,7 +6,7 @@ ghost use Rattle.found.specs.Progress.{progress_of};
 use crate::progress::{Progress, StopReason};
 use walk::Rights;
 
-// An answer by the numbers of its pages and frames. A level is a number and no `PageTableLevel`, which has four: a walk at 57 bits has five.
+// An answer by the numbers of its pages and frames. A level is a number, 1 to 5, and no `PageTableLevel`: the walk counts its levels.
 #[derive(Clone, Copy, Debug, PartialEq, Eq)]
 pub enum Found {
     // No page from there on is mapped or broken.

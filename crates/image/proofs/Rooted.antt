@@ -19,14 +19,14 @@ use Rattle.walk.specs.Root.{ImageAt}
 use Rattle.walk.proofs.Refused.{image-told, search-told}
 use Rattle.image.specs.Root.{Rooted, whole}
 
-module _ (image : List ℕ) (base root page : ℕ) where
+module _ (w : ℕ) (image : List ℕ) (base root page : ℕ) where
   -- what refuses the image refuses the search
-  pub root_refused : (r : Refusal) → ImageAt (reaching (length image) (whole image base)) base root (Err r) → number_of r ≡ search_refusal 48 image base root page
-  root_refused r h = sym (search-told image base root 48 page (Err r) (Err r) h refl)
+  pub root_refused : (r : Refusal) → ImageAt (reaching (length image) (whole image base)) base root (Err r) → number_of r ≡ search_refusal w image base root page
+  root_refused r h = sym (search-told image base root w page (Err r) (Err r) h refl)
 
   -- otherwise what refuses the page does
   module _ {place : ℕ} (h : ImageAt (reaching (length image) (whole image base)) base root (Ok place)) where
-    pub page_refused : search_refusal 48 image base root page ≡ item_refusal (virt 48) page 0x1000
+    pub page_refused : search_refusal w image base root page ≡ item_refusal (virt w) page 0x1000
     unfolding search_refusal
     page_refused = rw (image-told image base root (Ok place) h).0
 
@@ -34,9 +34,9 @@ module _ (image : List ℕ) (base root page : ℕ) where
     root_placed = (image-told image base root (Ok place) h).1
 
   -- where nothing does, with the image as one segment
-  module _ {place : ℕ} (told : Rooted image base root page (Ok place)) where
+  module _ {place : ℕ} (told : Rooted w image base root page (Ok place)) where
     pub root_inside : place + 512 ≤ length image
     root_inside = omega (arith, place_inside (whole image base) 0 root place told.1)
 
-    pub root_pages : (one : List Segment) → one ≡ whole image base → pages_from 0 one image 4 place ≡ image_pages 4 image base (root_table image base root)
-    root_pages one is = rw is (pages-placed image base root 4 place told.1)
+    pub root_pages : (one : List Segment) (levels : ℕ) → one ≡ whole image base → pages_from 0 one image levels place ≡ image_pages levels image base (root_table image base root)
+    root_pages one levels is = rw is (pages-placed image base root levels place told.1)

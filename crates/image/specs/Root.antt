@@ -9,6 +9,6 @@ use Rattle.walk.specs.Root.{Placed}
 abbrev pub whole : List ℕ → (base : ℕ) → List Segment
 whole image base = record { base = base; words = length image } ∷ []
 
--- its place, or the refusal
-abbrev pub Rooted : List ℕ → (base root page : ℕ) → Result ℕ Refusal → Type 0
-Rooted image base root page r = Placed (search_refusal 48 image base root page) (place_from 0 (whole image base) root) r
+-- its place, or the refusal, at the width `w`
+abbrev pub Rooted : (w : ℕ) → List ℕ → (base root page : ℕ) → Result ℕ Refusal → Type 0
+Rooted w image base root page r = Placed (search_refusal w image base root page) (place_from 0 (whole image base) root) r

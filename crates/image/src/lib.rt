@@ -13,5 +13,5 @@ mod span;
 mod tables;
 
 pub use found::StopReason;
-pub use list_searches::{Listed, list};
-pub use run_search::{ANSWER_WORDS, END, OUTSIDE, RESERVED, RUN, SearchAnswer, search};
+pub use list_searches::{Listed, list, list_at};
+pub use run_search::{ANSWER_WORDS, END, OUTSIDE, RESERVED, RUN, SearchAnswer, search, search_at};

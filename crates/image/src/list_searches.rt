@@ -87,7 +87,8 @@ fn list_from(
 // out is left as it was, and so is all of it on a refusal. In empty_tables the searches remember which tables hold nothing, a byte for each table and a bit for each level:
 // what stands there before does not matter, and where there is no byte nothing is remembered. Both are lent as words and bytes: C lends them so, and a kernel has no heap here.
 #[tactic(auto, using(answer::proofs::Refused::refused_number, crate::proofs::Rooted::root_inside), unfolding(paging::specs::List::listing))]
-pub fn list(
+pub fn list_at(
+    width: Width,
     image: &[u64],
     base: PhysAddr,
     root: PhysAddr,
@@ -95,11 +96,10 @@ pub fn list(
     empty_tables: &mut [u8],
     out: &mut [u64],
 ) -> Result<Listed, Refusal>
-    ensures { (listing_of result out.new ≡ listing 48 4 image.now base.0 root.0 page.0 out.old) × Remembered 48 image.now base.0 root.0 page.0 empty_tables.old empty_tables.new }
+    ensures { (listing_of result out.new ≡ listing (width_of width) (levels_of width) image.now base.0 root.0 page.0 out.old) × Remembered (width_of width) image.now base.0 root.0 page.0 empty_tables.old empty_tables.new }
 {
     let segments = [Segment::whole(image, base.0)];
-    let width = Width::Bits48;
-    let at = search_root(image, &segments, base, root, page)?;
+    let at = search_root(width, image, &segments, base, root, page)?;
     forget(empty_tables);
     let from = page_number(width, page.0);
     Ok(list_from(
@@ -112,4 +112,18 @@ pub fn list(
         NO_MASK,
         out,
     ))
+}
+
+// A list of searches at 48 bits.
+pub fn list(
+    image: &[u64],
+    base: PhysAddr,
+    root: PhysAddr,
+    page: VirtAddr,
+    empty_tables: &mut [u8],
+    out: &mut [u64],
+) -> Result<Listed, Refusal>
+    ensures { (listing_of result out.new ≡ listing 48 4 image.now base.0 root.0 page.0 out.old) × Remembered 48 image.now base.0 root.0 page.0 empty_tables.old empty_tables.new }
+{
+    list_at(Width::Bits48, image, base, root, page, empty_tables, out)
 }

@@ -1,6 +1,7 @@
 // The root of a search over one image.
 // Words and segments come one by one, for the reason that tables.rt gives.
 ghost use Rattle.std.specs.Prelude.{◌≡◌};
+ghost use Rattle.addr.specs.Widths.{width_of};
 ghost use Rattle.walk.specs.Segments.{segments_of};
 ghost use Rattle.image.specs.Root.{Rooted, whole};
 
@@ -12,6 +13,7 @@ use walk::{Segment, check_4kib, image_place};
 // The place of the root: base 2, 3; root 2, 3; 14; then 1 and 3 of the page.
 #[tactic(auto, using(crate::proofs::Rooted::root_refused, crate::proofs::Rooted::page_refused, crate::proofs::Rooted::root_placed))]
 pub(crate) fn search_root(
+    width: Width,
     image: &[u64],
     segments: &[Segment],
     base: PhysAddr,
@@ -19,9 +21,9 @@ pub(crate) fn search_root(
     page: VirtAddr,
 ) -> Result<usize, Refusal>
     requires { segments_of segments.now ≡ whole image.now base.0 }
-    ensures { Rooted image.now base.0 root.0 page.0 result }
+    ensures { Rooted (width_of width) image.now base.0 root.0 page.0 result }
 {
     let place = image_place(image.len() as u64, segments, base.0, root.0)?;
-    check_4kib(Width::Bits48, page.0)?;
+    check_4kib(width, page.0)?;
     Ok(place)
 }

@@ -31,7 +31,7 @@ pub const RESERVED: u64 = 2;
 pub const OUTSIDE: u64 = 3;
 
 // It differs from `Found` in the types of page and frame alone. One generic enum for both would be found's, and a type of another crate takes no method, so that `words` could
-// be none: no plainer. A level is a number and no `PageTableLevel`, which has four: a walk at 57 bits has five.
+// be none: no plainer. A level is a number, 1 to 5, and no `PageTableLevel`: the walk counts its levels.
 #[derive(Clone, Copy, Debug, PartialEq, Eq)]
 pub enum SearchAnswer {
     // No page from there on is mapped or broken.
@@ -115,8 +115,7 @@ pub(crate) fn reported(width: Width, found: Found) -> SearchAnswer
     }
 }
 
-// The first run or stop from a 4 KiB page on.
-#[tactic(auto, using(answer::proofs::Refused::refused_number, crate::proofs::Rooted::root_inside, crate::proofs::Rooted::root_pages), unfolding(paging::specs::Search::searching))]
+// The first run or stop from a 4 KiB page on, at 48 bits.
 pub fn search(
     image: &[u64],
     base: PhysAddr,
@@ -125,9 +124,22 @@ pub fn search(
 ) -> Result<SearchAnswer, Refusal>
     ensures { report_of result ≡ searching 48 4 image.now base.0 root.0 page.0 }
 {
+    search_at(Width::Bits48, image, base, root, page)
+}
+
+// The first run or stop from a 4 KiB page on.
+#[tactic(auto, using(answer::proofs::Refused::refused_number, crate::proofs::Rooted::root_inside, crate::proofs::Rooted::root_pages), unfolding(paging::specs::Search::searching))]
+pub fn search_at(
+    width: Width,
+    image: &[u64],
+    base: PhysAddr,
+    root: PhysAddr,
+    page: VirtAddr,
+) -> Result<SearchAnswer, Refusal>
+    ensures { report_of result ≡ searching (width_of width) (levels_of width) image.now base.0 root.0 page.0 }
+{
     let segments = [Segment::whole(image, base.0)];
-    let width = Width::Bits48;
-    let at = search_root(image, &segments, base, root, page)?;
+    let at = search_root(width, image, &segments, base, root, page)?;
     let mut empty_tables = [0u8; 0];
     let from = page_number(width, page.0);
     let found = find(

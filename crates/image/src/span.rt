@@ -5,16 +5,12 @@ ghost use Rattle.paging.specs.Span.{after};
 
 use table::SPANS;
 
-// The pages that an entry of level below + 1 spans. The array ends with what a table of level 4 spans; one of level 5 has 512 such entries.
+// The pages that an entry of level below + 1 spans; at 5, what the whole level-5 table does.
 fn span_pages(below: u64) -> u64
     requires { below ≤ 5 }
     ensures { result ≡ span_pages below }
 {
-    if below < 5 {
-        SPANS[below as usize] >> 12
-    } else {
-        512 * (SPANS[4] >> 12)
-    }
+    SPANS[below as usize] >> 12
 }
 
 // The page after the last of the span of such an entry that a page is in.

@@ -9,6 +9,7 @@ use borrow.Author.Tests.{lt-ltb, le-ltb, le-leb, lt-leb}
 use Rattle.answer.specs.Outcome.{gives, none, and_then}
 use Rattle.laws.specs.Width.{IsWidth, low, sign_extend, InGap}
 use Rattle.laws.specs.Steps.{address_count, forward, backward, steps}
+use Rattle.laws.specs.Stepping.{Stepping}
 use Rattle.laws.proofs.Cases.{by_cases}
 use Rattle.laws.proofs.Width.{low-lt, sign_low, sign-by-low, low-one-to-one, canonical-no-gap}
 
@@ -148,3 +149,18 @@ module _ (w : ℕ) (v : IsWidth w) where
 
   pub backward-no-gap : (s n t : ℕ) → backward w s n ≡ gives t → InGap w t → ⊥
   backward-no-gap s n t b = canonical-no-gap w v t ((backward-gives s n t).0 b).0
+
+-- all of it in one
+pub stepping : (w : ℕ) → IsWidth w → Stepping w
+stepping w v =
+    record {
+      forward-gives = forward-gives w v;
+      backward-gives = backward-gives w v;
+      steps-gives = steps-gives w v;
+      bounded = λ s n h. (forward-out w s n (omega arith), backward-out w s n (omega (arith, low-lt w v s)));
+      forward-backward = forward-backward w v;
+      forward-steps = forward-steps w v;
+      forward-sum = forward-sum w v;
+      forward-no-gap = forward-no-gap w v;
+      backward-no-gap = backward-no-gap w v;
+    }

@@ -1,6 +1,6 @@
 -- What the calls on addresses answer. The sentences are those of document 01, "Addresses".
 use Rattle.std.specs.Prelude.{ℕ, ◌+◌, ◌-◌, ◌^◌, Bool, ltb, leb, eqb, ℤ, pos, negsuc, ◌+ℤ◌}
-use Rattle.answer.specs.Outcome.{Outcome, gives, refuses, unless, and_then}
+use Rattle.answer.specs.Outcome.{Outcome, gives, refuses, unless, only_if, and_then}
 use Rattle.answer.specs.Refusal.{not_canonical, not_physical, not_power_of_two, overflow, result_not_canonical, result_not_physical}
 use Rattle.laws.specs.Width.{low, canonical, sign_extend}
 use Rattle.laws.specs.Steps.{forward, backward, steps}
@@ -106,3 +106,7 @@ page_offset w a = given (virt w) a (gives (offset a))
 
 abbrev pub table_index : ℕ → ℕ → ℕ → Outcome ℕ
 table_index w a l = given (virt w) a (gives (index l a))
+
+-- the same of any level, at a width with so many: "level 5 has its nine bits from bit 48" (document 02, request Four), and a width without it has no such index
+abbrev pub level_index : (w levels a l : ℕ) → Outcome ℕ
+level_index w levels a l = given (virt w) a (only_if (leb l levels) (index l a))

@@ -1,5 +1,7 @@
 pub mod Width
+pub mod Form
 pub mod Steps
+pub mod Stepping
 pub mod Align
 pub mod Index
 pub mod Number

@@ -3,7 +3,7 @@ use Rattle.std.specs.Prelude.{ℕ, ◌+◌, ◌-◌, ◌^◌, ltb, leb}
 use Rattle.answer.specs.Outcome.{Outcome, only_if}
 use Rattle.laws.specs.Width.{low, sign_extend}
 
--- how many addresses there are
+-- how many addresses there are; "Stepping is bounded by 2^57" (document 02, request Four)
 abbrev pub address_count : ℕ → ℕ
 address_count w = 2 ^ w
 

@@ -62,7 +62,7 @@ state_of (absent l) = page.absent
 state_of (broken l r) = page.broken l r
 state_of (mapped g l h) = page.mapped g h
 
--- the pages that so many levels reach, 2^36 with four, each in its state; `PageNumbers` says that they are those of the addresses
+-- the pages that so many levels reach, 2^36 with four, 2^45 with five (document 02, request Four), each in its state; `PageNumbers` says that they are those of the addresses
 abbrev pub space_of : (levels : ℕ) → (ℕ → PageState) → Space
 space_of levels page = record { page = page; size = span_pages levels; high = 2 ^ (9 * levels - 1); span = λ l. span_pages (l - 1) }
 

@@ -4,7 +4,7 @@ use mathlib.Core.Path.{◌≡◌, refl, ap, ◌∙◌}
 use mathlib.Core.Bool.{Bool, true, false, cond}
 use native.Mathlib.Decide.{ℕ_discrete}
 use Rattle.answer.specs.Refusal.{draw_meets_gap}
-use Rattle.laws.specs.Width.{InOneHalf}
+use Rattle.laws.specs.Width.{InOneHalf, PageWidth}
 use Rattle.laws.specs.Run.{pages_through}
 use Rattle.laws.specs.Draw as draw
 use Rattle.laws.specs.Draw.{gap_front, gap_back}
@@ -17,8 +17,6 @@ use Rattle.range.specs.Ranges as ranges
 use Rattle.range.specs.Ranges.{made, made_inclusive}
 use Rattle.range.specs.declared.range.Range.{Range}
 use Rattle.range.specs.declared.range_inclusive.RangeInclusive.{RangeInclusive}
-use Rattle.addr.specs.Widths.{width_of}
-use Rattle.addr.specs.declared.width.Width.{Width}
 use Rattle.page_draw.proofs.Settled as numbers
 use Rattle.page.specs.Page.{start, bytes}
 use Rattle.page.specs.Range as now
@@ -50,22 +48,22 @@ module _ {S : Type 0} (ends : Page → Page → S) (x y : Page) where
   no_gap d k true e n = absurd (n (meets ends x y d k true e refl))
   no_gap d k false e n = refl
 
-module _ (v : Width) (r : Range Page) (n : ℕ) where
-  nth : now.nth_of (width_of v) r n ≡ nth_of (width_of v) r n
+module _ (v : PageWidth) (r : Range Page) (n : ℕ) where
+  nth : now.nth_of v.bits r n ≡ nth_of v.bits r n
   unfolding gap_front before.gap_front_below
   nth =
-      of-same made r.start r.end (refusal (width_of v) r.start r.end) (gap_front (width_of v) (start r.start) (start r.end) (bytes r.start) n) _ _
+      of-same made r.start r.end (refusal v.bits r.start r.end) (gap_front v.bits (start r.start) (start r.end) (bytes r.start) n) _ _
       (λ e g. rw (numbers.front-alike v (start r.start) r.start.size (start r.end) r.end.size n e g).same)
 
-  nth-back : now.nth_back_of (width_of v) r n ≡ nth_back_of (width_of v) r n
+  nth-back : now.nth_back_of v.bits r n ≡ nth_back_of v.bits r n
   unfolding gap_back before.gap_back_below
   nth-back =
-      of-same made r.start r.end (refusal (width_of v) r.start r.end) (gap_back (width_of v) (start r.start) (start r.end) (bytes r.start) n) _ _
+      of-same made r.start r.end (refusal v.bits r.start r.end) (gap_back v.bits (start r.start) (start r.end) (bytes r.start) n) _ _
       (λ e g. rw (numbers.back-alike v (start r.start) r.start.size (start r.end) r.end.size n e g).same)
 
-module _ (v : Width) (r : RangeInclusive Page) (n : ℕ) where
+module _ (v : PageWidth) (r : RangeInclusive Page) (n : ℕ) where
   abbrev w : ℕ
-  w = width_of v
+  w = v.bits
 
   abbrev a : ℕ
   a = start r.start
@@ -112,8 +110,8 @@ module _ (v : Width) (r : RangeInclusive Page) (n : ℕ) where
           let (f, g) = back-as-before w z a b (accepted v r.start r.end e).ends l n (λ i. no_gap made_inclusive r.start r.end old (refusal w r.start r.end) (before.gap_back_through w a b z n) e (h i)) in
           rw (f, g)
 
-pub as_before : (v : Width) → AsBefore (width_of v)
+pub as_before : (v : PageWidth) → AsBefore v.bits
 as_before v = record { nth = nth v; nth-back = nth-back v; nth-inclusive = as-inclusive v; nth-back-inclusive = as-back-inclusive v }
 
-pub length-changes-no-draw : (v : Width) → LengthChangesNoDraw (width_of v)
+pub length-changes-no-draw : (v : PageWidth) → LengthChangesNoDraw v.bits
 length-changes-no-draw v = record { nth-inclusive = same-inclusive v; nth-back-inclusive = same-back-inclusive v }

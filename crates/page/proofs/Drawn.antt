@@ -1,4 +1,4 @@
--- Pages drawn one by one, at either width: each of them once and in order, from either end or both, where no draw is refused; and a draw with n as n + 1 draws with n = 0.
+-- Pages drawn one by one, over the width: each of them once and in order, from either end or both, where no draw is refused; and a draw with n as n + 1 draws with n = 0.
 use Prim.Native.Nat.{ℕ, zero, suc, ◌-◌, ◌%◌, ◌^◌, ◌≤◌, ◌<◌}
 use mathlib.Core.Path.{◌≡◌, refl, sym, ◌∙◌}
 use mathlib.Core.Bool.{Bool, true, false, cond}
@@ -9,7 +9,7 @@ use native.Mathlib.Nat.{zero-mod, le_of_lt}
 use borrow.Author.Tests.{eq-eqb}
 use lib.ListN.{get_elem?, drop}
 use Rattle.answer.specs.Refusal.{draw_meets_gap}
-use Rattle.laws.specs.Width.{half, first_high}
+use Rattle.laws.specs.Width.{half, first_high, PageWidth}
 use Rattle.laws.specs.Run.{len_below, len_through, below, through, pages_below, pages_through, page_len_below, page_len_through}
 use Rattle.laws.specs.Draw as draw
 use Rattle.laws.specs.Drawing.{Side, front, back, Drawn, EachOnce, OneByOne}
@@ -31,10 +31,7 @@ use Rattle.table.proofs.Sizes.{bounds}
 use Rattle.range.specs.Ranges.{made, made_inclusive}
 use Rattle.range.specs.declared.range.Range.{Range}
 use Rattle.range.specs.declared.range_inclusive.RangeInclusive.{RangeInclusive}
-use Rattle.addr.specs.Widths.{width_of}
 use Rattle.laws.specs.Item.{first_refusal, item_refusal, items_refusal}
-use Rattle.addr.specs.declared.width.Width.{Width}
-use Rattle.addr.proofs.Widths.{widths, wide}
 use Rattle.page.specs.Page.{start, bytes, page_at}
 use Rattle.page.specs.Range.{refusal, pages, pages_of, pages_inclusive_of, IsAccepted, IsAcceptedInclusive, IsEmpty, IsEmptyInclusive, len, len_inclusive, nth_from, nth_inclusive_from, next_from, next_inclusive_from}
 use Rattle.page.specs.declared.page.Page.{Page}
@@ -58,14 +55,14 @@ pub record Pages (w z : ℕ) (d : draw.Draw) : Type 0 where
   pub end-half : half w ≤ d.end → first_high w ≤ d.end
   pub multiples : kept.Multiples z d
 
-pub accepted-left : (v : Width) (x y : Page) (d : draw.Draw) → refusal (width_of v) x y ≡ 0 → Pages (width_of v) (bytes x) d → refusal (width_of v) (page_at x.size d.start) (page_at y.size d.end) ≡ 0
+pub accepted-left : (v : PageWidth) (x y : Page) (d : draw.Draw) → refusal v.bits x y ≡ 0 → Pages v.bits (bytes x) d → refusal v.bits (page_at x.size d.start) (page_at y.size d.end) ≡ 0
 unfolding items_refusal item_refusal
 accepted-left v x y d e p =
     let k = ranges.accepted v x y e in
-    let w = width_of v in
+    let w = v.bits in
     simp (
-      canonical-halves w (widths v) d.start p.start-below p.start-half,
-      canonical-halves w (widths v) d.end p.end_below p.end-half,
+      canonical-halves w v.width d.start p.start-below p.start-half,
+      canonical-halves w v.width d.end p.end_below p.end-half,
       eq-eqb (d.start % bytes x) 0 p.multiples.start,
       eq-eqb (d.end % bytes y) 0 (rw (← k.same) p.multiples.end),
       eq-eqb (bytes x) (bytes y) k.same,
@@ -84,9 +81,9 @@ on_front_inclusive w z a b n = draw.front_through (through a b z) (draw.top_of w
 abbrev pub on_back_inclusive : ℕ → ℕ → ℕ → ℕ → ℕ → draw.Draw
 on_back_inclusive w z a b n = draw.back_through (through a b z) (draw.bottom_of w a b) a b z n
 
-module _ (v : Width) (x y : Page) (e : refusal (width_of v) x y ≡ 0) where
+module _ (v : PageWidth) (x y : Page) (e : refusal v.bits x y ≡ 0) where
   abbrev pub w : ℕ
-  w = width_of v
+  w = v.bits
 
   abbrev ends_of : PageEnds w (bytes x) (start x) (start y)
   ends_of = (ranges.accepted v x y e).ends
@@ -123,13 +120,13 @@ module _ (v : Width) (x y : Page) (e : refusal (width_of v) x y ≡ 0) where
       top = top-whole (power_of x.size) 64 (omega (arith, bounds x.size))
 
       low : (half w - bytes x) % bytes x ≡ 0
-      low = top-whole (power_of x.size) (w - 1) (omega (arith, bounds x.size, wide v))
+      low = top-whole (power_of x.size) (w - 1) (omega (arith, bounds x.size, v.wide))
 
   bottom-multiple : draw.bottom_of w (start x) (start y) % bytes x ≡ 0
   bottom-multiple =
       by_end ends_of (λ k. rw (bottom-zero w (start x) (start y) (omega (arith, ends_of.halves))) (zero-mod (bytes x)))
       (λ h k. rw (bottom-over w (start x) (start y) (omega (arith, ends_of.halves))) (zero-mod (bytes x)))
-      (λ h k. rw (bottom-high w (start x) (start y) h k) (high-whole w (power_of x.size) (widths v) (omega (arith, bounds x.size, wide v))))
+      (λ h k. rw (bottom-high w (start x) (start y) h k) (high-whole w (power_of x.size) v.width (omega (arith, bounds x.size, v.wide))))
 
   pub front-inclusive-pages : draw.gap_front w (start x) (start y) (bytes x) 0 ≡ false → Pages w (bytes x) (on_front_inclusive w (bytes x) (start x) (start y) 0)
   front-inclusive-pages g =
@@ -172,20 +169,20 @@ abbrev PageFacts : ℕ → (Page → Page → Type 0) → (ℕ → ℕ → ℕ �
 PageFacts w Empty len gap made on =
     Facts pages len (λ x y. refusal w x y ≡ 0) Empty (Free w gap) (number w gap) (λ n x y. made (bytes x) (start x) (start y) n) on
 
-module _ (v : Width) (Empty : Page → Page → Type 0) (len : ℕ → ℕ → ℕ → ℕ) (gap : ℕ → ℕ → ℕ → ℕ → ℕ → Bool) (made on : ℕ → ℕ → ℕ → ℕ → draw.Draw)
-    (same : (x y : Page) (n : ℕ) → refusal (width_of v) x y ≡ 0 → gap (width_of v) (start x) (start y) (bytes x) n ≡ false → made (bytes x) (start x) (start y) n ≡ on (bytes x) (start x) (start y) n)
-    (steps : (z a b : ℕ) → PageEnds (width_of v) z a b → Stepwise (len a b z) (on z) a b)
-    (pages-left : (x y : Page) → refusal (width_of v) x y ≡ 0 → gap (width_of v) (start x) (start y) (bytes x) 0 ≡ false → Pages (width_of v) (bytes x) (on (bytes x) (start x) (start y) 0))
-    (gap-after : (x y : Page) (n : ℕ) → refusal (width_of v) x y ≡ 0 → gap (width_of v) (start x) (start y) (bytes x) 0 ≡ false
-    → gap (width_of v) (on (bytes x) (start x) (start y) 0).start (on (bytes x) (start x) (start y) 0).end (bytes x) n ≡ gap (width_of v) (start x) (start y) (bytes x) (suc n))
-    (gap-first : (x y : Page) (n : ℕ) → gap (width_of v) (start x) (start y) (bytes x) (suc n) ≡ false → gap (width_of v) (start x) (start y) (bytes x) 0 ≡ false)
+module _ (v : PageWidth) (Empty : Page → Page → Type 0) (len : ℕ → ℕ → ℕ → ℕ) (gap : ℕ → ℕ → ℕ → ℕ → ℕ → Bool) (made on : ℕ → ℕ → ℕ → ℕ → draw.Draw)
+    (same : (x y : Page) (n : ℕ) → refusal v.bits x y ≡ 0 → gap v.bits (start x) (start y) (bytes x) n ≡ false → made (bytes x) (start x) (start y) n ≡ on (bytes x) (start x) (start y) n)
+    (steps : (z a b : ℕ) → PageEnds v.bits z a b → Stepwise (len a b z) (on z) a b)
+    (pages-left : (x y : Page) → refusal v.bits x y ≡ 0 → gap v.bits (start x) (start y) (bytes x) 0 ≡ false → Pages v.bits (bytes x) (on (bytes x) (start x) (start y) 0))
+    (gap-after : (x y : Page) (n : ℕ) → refusal v.bits x y ≡ 0 → gap v.bits (start x) (start y) (bytes x) 0 ≡ false
+    → gap v.bits (on (bytes x) (start x) (start y) 0).start (on (bytes x) (start x) (start y) 0).end (bytes x) n ≡ gap v.bits (start x) (start y) (bytes x) (suc n))
+    (gap-first : (x y : Page) (n : ℕ) → gap v.bits (start x) (start y) (bytes x) (suc n) ≡ false → gap v.bits (start x) (start y) (bytes x) 0 ≡ false)
     (empty-len : (x y : Page) → Empty x y → len (start x) (start y) (bytes x) ≡ 0)
-    (empty-gap : (x y : Page) (n : ℕ) → PageEnds (width_of v) (bytes x) (start x) (start y) → Empty x y → gap (width_of v) (start x) (start y) (bytes x) n ≡ false) where
-  facts : PageFacts (width_of v) Empty len gap made on
+    (empty-gap : (x y : Page) (n : ℕ) → PageEnds v.bits (bytes x) (start x) (start y) → Empty x y → gap v.bits (start x) (start y) (bytes x) n ≡ false) where
+  facts : PageFacts v.bits Empty len gap made on
   facts =
       record {
         no_number = λ n x y f. let (g, h) = f in simp (g, h);
-        free = λ n x y h. passed (refusal (width_of v) x y) (gap (width_of v) (start x) (start y) (bytes x) n) h;
+        free = λ n x y h. passed (refusal v.bits x y) (gap v.bits (start x) (start y) (bytes x) n) h;
         given = λ n x y f. f.0;
         by-numbers = λ n x y f. same x y n f.0 f.1;
         steps = λ x y g. steps (bytes x) (start x) (start y) (ranges.accepted v x y g).ends;
@@ -210,50 +207,50 @@ none-through : (x y : Page) → EmptyThrough x y → len_through (start x) (star
 none-through x y h = through-none (start x) (start y) (bytes x) h
 
 -- the facts of the four draws
-module _ (v : Width) where
-  front-facts : PageFacts (width_of v) EmptyBelow len_below draw.gap_front (λ z a b n. draw.front_of (pages_below (width_of v) a b z) (page_len_below (width_of v) a b z) a b z n) on_front
+module _ (v : PageWidth) where
+  front-facts : PageFacts v.bits EmptyBelow len_below draw.gap_front (λ z a b n. draw.front_of (pages_below v.bits a b z) (page_len_below v.bits a b z) a b z n) on_front
   front-facts =
-      facts v EmptyBelow len_below draw.gap_front (λ z a b n. draw.front_of (pages_below (width_of v) a b z) (page_len_below (width_of v) a b z) a b z n) on_front
-      (λ x y n e g. rw (front_below (width_of v) (bytes x) (start x) (start y) (ranges.accepted v x y e).ends n g, (numbers.front-alike v (start x) x.size (start y) y.size n e g).same))
+      facts v EmptyBelow len_below draw.gap_front (λ z a b n. draw.front_of (pages_below v.bits a b z) (page_len_below v.bits a b z) a b z n) on_front
+      (λ x y n e g. rw (front_below v.bits (bytes x) (start x) (start y) (ranges.accepted v x y e).ends n g, (numbers.front-alike v (start x) x.size (start y) y.size n e g).same))
       (λ z a b p. front-below-steps z a b p.some)
       (front-pages v)
-      (λ x y n e g. kept.front-below-gap (width_of v) (bytes x) (start x) (start y) (ranges.accepted v x y e).ends g n)
-      (λ x y n g. kept.front-first (width_of v) (bytes x) (start x) (start y) n g)
+      (λ x y n e g. kept.front-below-gap v.bits (bytes x) (start x) (start y) (ranges.accepted v x y e).ends g n)
+      (λ x y n g. kept.front-first v.bits (bytes x) (start x) (start y) n g)
       none_below
-      (λ x y n p h. kept.front-none (width_of v) (bytes x) (start x) (start y) n p h)
+      (λ x y n p h. kept.front-none v.bits (bytes x) (start x) (start y) n p h)
 
-  back-facts : PageFacts (width_of v) EmptyBelow len_below draw.gap_back (λ z a b n. draw.back_of (pages_below (width_of v) a b z) (page_len_below (width_of v) a b z) a b z n) on_back
+  back-facts : PageFacts v.bits EmptyBelow len_below draw.gap_back (λ z a b n. draw.back_of (pages_below v.bits a b z) (page_len_below v.bits a b z) a b z n) on_back
   back-facts =
-      facts v EmptyBelow len_below draw.gap_back (λ z a b n. draw.back_of (pages_below (width_of v) a b z) (page_len_below (width_of v) a b z) a b z n) on_back
-      (λ x y n e g. rw (back_below (width_of v) (bytes x) (start x) (start y) (ranges.accepted v x y e).ends n g, (numbers.back-alike v (start x) x.size (start y) y.size n e g).same))
+      facts v EmptyBelow len_below draw.gap_back (λ z a b n. draw.back_of (pages_below v.bits a b z) (page_len_below v.bits a b z) a b z n) on_back
+      (λ x y n e g. rw (back_below v.bits (bytes x) (start x) (start y) (ranges.accepted v x y e).ends n g, (numbers.back-alike v (start x) x.size (start y) y.size n e g).same))
       (λ z a b p. back-below-steps z a b p.some)
       (back-pages v)
-      (λ x y n e g. kept.back-below-gap (width_of v) (bytes x) (start x) (start y) (ranges.accepted v x y e).ends g n)
-      (λ x y n g. kept.back-first (width_of v) (bytes x) (start x) (start y) n g)
+      (λ x y n e g. kept.back-below-gap v.bits (bytes x) (start x) (start y) (ranges.accepted v x y e).ends g n)
+      (λ x y n g. kept.back-first v.bits (bytes x) (start x) (start y) n g)
       none_below
-      (λ x y n p h. kept.back-none (width_of v) (bytes x) (start x) (start y) n p h)
+      (λ x y n p h. kept.back-none v.bits (bytes x) (start x) (start y) n p h)
 
-  front-inclusive-facts : PageFacts (width_of v) EmptyThrough len_through draw.gap_front (λ z a b n. draw.front_inclusive_of (pages_through (width_of v) a b z) (page_len_through (width_of v) a b z) (draw.top_of (width_of v) a b z) a b z n) (on_front_inclusive (width_of v))
+  front-inclusive-facts : PageFacts v.bits EmptyThrough len_through draw.gap_front (λ z a b n. draw.front_inclusive_of (pages_through v.bits a b z) (page_len_through v.bits a b z) (draw.top_of v.bits a b z) a b z n) (on_front_inclusive v.bits)
   front-inclusive-facts =
-      facts v EmptyThrough len_through draw.gap_front (λ z a b n. draw.front_inclusive_of (pages_through (width_of v) a b z) (page_len_through (width_of v) a b z) (draw.top_of (width_of v) a b z) a b z n) (on_front_inclusive (width_of v))
-      (λ x y n e g. rw (front-through (width_of v) (bytes x) (start x) (start y) (ranges.accepted v x y e).ends n g, (numbers.front-through-alike v (start x) x.size (start y) y.size n e g).same))
-      (left.page-front-steps (width_of v))
+      facts v EmptyThrough len_through draw.gap_front (λ z a b n. draw.front_inclusive_of (pages_through v.bits a b z) (page_len_through v.bits a b z) (draw.top_of v.bits a b z) a b z n) (on_front_inclusive v.bits)
+      (λ x y n e g. rw (front-through v.bits (bytes x) (start x) (start y) (ranges.accepted v x y e).ends n g, (numbers.front-through-alike v (start x) x.size (start y) y.size n e g).same))
+      (left.page-front-steps v.bits)
       (front-inclusive-pages v)
-      (λ x y n e g. kept.front-through-gap (width_of v) (bytes x) (start x) (start y) (ranges.accepted v x y e).ends (through (start x) (start y) (bytes x)) g n)
-      (λ x y n g. kept.front-first (width_of v) (bytes x) (start x) (start y) n g)
+      (λ x y n e g. kept.front-through-gap v.bits (bytes x) (start x) (start y) (ranges.accepted v x y e).ends (through (start x) (start y) (bytes x)) g n)
+      (λ x y n g. kept.front-first v.bits (bytes x) (start x) (start y) n g)
       none-through
-      (λ x y n p h. kept.front-none (width_of v) (bytes x) (start x) (start y) n p (le_of_lt h))
+      (λ x y n p h. kept.front-none v.bits (bytes x) (start x) (start y) n p (le_of_lt h))
 
-  back-inclusive-facts : PageFacts (width_of v) EmptyThrough len_through draw.gap_back (λ z a b n. draw.back_inclusive_of (pages_through (width_of v) a b z) (page_len_through (width_of v) a b z) (draw.bottom_of (width_of v) a b) a b z n) (on_back_inclusive (width_of v))
+  back-inclusive-facts : PageFacts v.bits EmptyThrough len_through draw.gap_back (λ z a b n. draw.back_inclusive_of (pages_through v.bits a b z) (page_len_through v.bits a b z) (draw.bottom_of v.bits a b) a b z n) (on_back_inclusive v.bits)
   back-inclusive-facts =
-      facts v EmptyThrough len_through draw.gap_back (λ z a b n. draw.back_inclusive_of (pages_through (width_of v) a b z) (page_len_through (width_of v) a b z) (draw.bottom_of (width_of v) a b) a b z n) (on_back_inclusive (width_of v))
-      (λ x y n e g. rw (back-through (width_of v) (bytes x) (start x) (start y) (ranges.accepted v x y e).ends n g, (numbers.back-through-alike v (start x) x.size (start y) y.size n e g).same))
-      (left.page-back-steps (width_of v))
+      facts v EmptyThrough len_through draw.gap_back (λ z a b n. draw.back_inclusive_of (pages_through v.bits a b z) (page_len_through v.bits a b z) (draw.bottom_of v.bits a b) a b z n) (on_back_inclusive v.bits)
+      (λ x y n e g. rw (back-through v.bits (bytes x) (start x) (start y) (ranges.accepted v x y e).ends n g, (numbers.back-through-alike v (start x) x.size (start y) y.size n e g).same))
+      (left.page-back-steps v.bits)
       (back-inclusive-pages v)
-      (λ x y n e g. kept.back-through-gap (width_of v) (bytes x) (start x) (start y) (ranges.accepted v x y e).ends (through (start x) (start y) (bytes x)) g n)
-      (λ x y n g. kept.back-first (width_of v) (bytes x) (start x) (start y) n g)
+      (λ x y n e g. kept.back-through-gap v.bits (bytes x) (start x) (start y) (ranges.accepted v x y e).ends (through (start x) (start y) (bytes x)) g n)
+      (λ x y n g. kept.back-first v.bits (bytes x) (start x) (start y) n g)
       none-through
-      (λ x y n p h. kept.back-none (width_of v) (bytes x) (start x) (start y) n p (le_of_lt h))
+      (λ x y n p h. kept.back-none v.bits (bytes x) (start x) (start y) n p (le_of_lt h))
 
 -- ranges by their ends
 ends : Ends {P = Page} made (λ r. r.start) (λ r. r.end)
@@ -279,74 +276,74 @@ abbrev IsFreeInclusive : ℕ → Side → ℕ → RangeInclusive Page → Type 0
 IsFreeInclusive w front n r = Free w draw.gap_front n r.start r.end
 IsFreeInclusive w back n r = Free w draw.gap_back n r.start r.end
 
-pub given-range : (v : Width) (side : Side) → Settled (IsAccepted (width_of v)) IsEmpty ranges.numbers_len (IsFree (width_of v) side) (out side) (nth_from (width_of v) side)
+pub given-range : (v : PageWidth) (side : Side) → Settled (IsAccepted v.bits) IsEmpty ranges.numbers_len (IsFree v.bits side) (out side) (nth_from v.bits side)
 given-range v front = settled items ends (front-facts v)
 given-range v back = settled items ends (back-facts v)
 
-pub given-inclusive : (v : Width) (side : Side) → Settled (IsAcceptedInclusive (width_of v)) IsEmptyInclusive ranges.numbers_len_inclusive (IsFreeInclusive (width_of v) side) (out_inclusive (width_of v) side) (nth_inclusive_from (width_of v) side)
+pub given-inclusive : (v : PageWidth) (side : Side) → Settled (IsAcceptedInclusive v.bits) IsEmptyInclusive ranges.numbers_len_inclusive (IsFreeInclusive v.bits side) (out_inclusive v.bits side) (nth_inclusive_from v.bits side)
 given-inclusive v front = settled items ends_inclusive (front-inclusive-facts v)
 given-inclusive v back = settled items ends_inclusive (back-inclusive-facts v)
 
 -- where a draw past the last page is not refused, the range has no gap to count
-past-same : (v : Width) (side : Side) (n : ℕ) (r : Range Page) (d : Drawn (Range Page)) → len (width_of v) r ≤ n → nth_from (width_of v) side n r ≡ some d → len (width_of v) r ≡ ranges.numbers_len r
+past-same : (v : PageWidth) (side : Side) (n : ℕ) (r : Range Page) (d : Drawn (Range Page)) → len v.bits r ≤ n → nth_from v.bits side n r ≡ some d → len v.bits r ≡ ranges.numbers_len r
 past-same v front n r d l h = let (e, g) = (given-range v front).free n r d h in (numbers.front-alike v (start r.start) r.start.size (start r.end) r.end.size n e g).past l
 past-same v back n r d l h = let (e, g) = (given-range v back).free n r d h in (numbers.back-alike v (start r.start) r.start.size (start r.end) r.end.size n e g).past l
 
-past-same-inclusive : (v : Width) (side : Side) (n : ℕ) (r : RangeInclusive Page) (d : Drawn (RangeInclusive Page)) → len_inclusive (width_of v) r ≤ n → nth_inclusive_from (width_of v) side n r ≡ some d
-    → len_inclusive (width_of v) r ≡ ranges.numbers_len_inclusive r
+past-same-inclusive : (v : PageWidth) (side : Side) (n : ℕ) (r : RangeInclusive Page) (d : Drawn (RangeInclusive Page)) → len_inclusive v.bits r ≤ n → nth_inclusive_from v.bits side n r ≡ some d
+    → len_inclusive v.bits r ≡ ranges.numbers_len_inclusive r
 past-same-inclusive v front n r d l h = let (e, g) = (given-inclusive v front).free n r d h in (numbers.front-through-alike v (start r.start) r.start.size (start r.end) r.end.size n e g).past l
 past-same-inclusive v back n r d l h = let (e, g) = (given-inclusive v back).free n r d h in (numbers.back-through-alike v (start r.start) r.start.size (start r.end) r.end.size n e g).past l
 
 -- a draw with n as n + 1 draws with n = 0
-pub pages-one-by-one : (v : Width) → OneByOne (IsAccepted (width_of v)) IsEmpty (len (width_of v)) (nth_from (width_of v))
+pub pages-one-by-one : (v : PageWidth) → OneByOne (IsAccepted v.bits) IsEmpty (len v.bits) (nth_from v.bits)
 pages-one-by-one v = other_length (past-same v) (one_by_one (given-range v))
 
-pub pages-inclusive-one-by-one : (v : Width) → OneByOne (IsAcceptedInclusive (width_of v)) IsEmptyInclusive (len_inclusive (width_of v)) (nth_inclusive_from (width_of v))
+pub pages-inclusive-one-by-one : (v : PageWidth) → OneByOne (IsAcceptedInclusive v.bits) IsEmptyInclusive (len_inclusive v.bits) (nth_inclusive_from v.bits)
 pages-inclusive-one-by-one v = other_length (past-same-inclusive v) (one_by_one (given-inclusive v))
 
 -- each page once
-module _ (v : Width) (r : Range Page) (d : Drawn (Range Page)) where
-  front-drawn : next_from (width_of v) front r ≡ some d → (d.item ≡ get_elem? (pages_of (width_of v) r) 0) × (pages_of (width_of v) d.range ≡ drop 1 (pages_of (width_of v) r))
+module _ (v : PageWidth) (r : Range Page) (d : Drawn (Range Page)) where
+  front-drawn : next_from v.bits front r ≡ some d → (d.item ≡ get_elem? (pages_of v.bits r) 0) × (pages_of v.bits d.range ≡ drop 1 (pages_of v.bits r))
   front-drawn h =
       let q = settled_is (given-range v front) 0 r d h in
       let (e, g) = (given-range v front).free 0 r d h in
       let p = (ranges.accepted v r.start r.end e).ends in
-      rw q (sym (front_below (width_of v) (bytes r.start) (start r.start) (start r.end) p 0 g), pages-front-left (width_of v) (bytes r.start) (start r.start) (start r.end) p 0 g)
+      rw q (sym (front_below v.bits (bytes r.start) (start r.start) (start r.end) p 0 g), pages-front-left v.bits (bytes r.start) (start r.start) (start r.end) p 0 g)
 
-  back-drawn : next_from (width_of v) back r ≡ some d → (d.item ≡ get_elem? (reverse (pages_of (width_of v) r)) 0) × (reverse (pages_of (width_of v) d.range) ≡ drop 1 (reverse (pages_of (width_of v) r)))
+  back-drawn : next_from v.bits back r ≡ some d → (d.item ≡ get_elem? (reverse (pages_of v.bits r)) 0) × (reverse (pages_of v.bits d.range) ≡ drop 1 (reverse (pages_of v.bits r)))
   back-drawn h =
       let q = settled_is (given-range v back) 0 r d h in
       let (e, g) = (given-range v back).free 0 r d h in
       let p = (ranges.accepted v r.start r.end e).ends in
-      rw q (sym (back_below (width_of v) (bytes r.start) (start r.start) (start r.end) p 0 g), pages-back-left (width_of v) (bytes r.start) (start r.start) (start r.end) p 0 g)
+      rw q (sym (back_below v.bits (bytes r.start) (start r.start) (start r.end) p 0 g), pages-back-left v.bits (bytes r.start) (start r.start) (start r.end) p 0 g)
 
-module _ (v : Width) (r : RangeInclusive Page) (d : Drawn (RangeInclusive Page)) where
+module _ (v : PageWidth) (r : RangeInclusive Page) (d : Drawn (RangeInclusive Page)) where
   abbrev all : List ℕ
   all = ranges.numbers_inclusive_in r.start r.end
 
-  front-inclusive-drawn : next_inclusive_from (width_of v) front r ≡ some d → (d.item ≡ get_elem? (pages_inclusive_of (width_of v) r) 0) × (pages_inclusive_of (width_of v) d.range ≡ drop 1 (pages_inclusive_of (width_of v) r))
+  front-inclusive-drawn : next_inclusive_from v.bits front r ≡ some d → (d.item ≡ get_elem? (pages_inclusive_of v.bits r) 0) × (pages_inclusive_of v.bits d.range ≡ drop 1 (pages_inclusive_of v.bits r))
   front-inclusive-drawn h =
       let q = settled_is (given-inclusive v front) 0 r d h in
       let (e, g) = (given-inclusive v front).free 0 r d h in
       let a = ranges.accepted v r.start r.end e in
       rw q (
-        sym (front-through (width_of v) (bytes r.start) (start r.start) (start r.end) a.ends 0 g),
-        pages-front-through-left (width_of v) (bytes r.start) (start r.start) (start r.end) a.ends all 0 g,
+        sym (front-through v.bits (bytes r.start) (start r.start) (start r.end) a.ends 0 g),
+        pages-front-through-left v.bits (bytes r.start) (start r.start) (start r.end) a.ends all 0 g,
       )
 
-  back-inclusive-drawn : next_inclusive_from (width_of v) back r ≡ some d → (d.item ≡ get_elem? (reverse (pages_inclusive_of (width_of v) r)) 0) × (reverse (pages_inclusive_of (width_of v) d.range) ≡ drop 1 (reverse (pages_inclusive_of (width_of v) r)))
+  back-inclusive-drawn : next_inclusive_from v.bits back r ≡ some d → (d.item ≡ get_elem? (reverse (pages_inclusive_of v.bits r)) 0) × (reverse (pages_inclusive_of v.bits d.range) ≡ drop 1 (reverse (pages_inclusive_of v.bits r)))
   back-inclusive-drawn h =
       let q = settled_is (given-inclusive v back) 0 r d h in
       let (e, g) = (given-inclusive v back).free 0 r d h in
       let a = ranges.accepted v r.start r.end e in
       rw q (
-        sym (back-through (width_of v) (bytes r.start) (start r.start) (start r.end) a.ends 0 g),
-        pages-back-through-left (width_of v) (bytes r.start) (start r.start) (start r.end) a.ends all 0 g,
+        sym (back-through v.bits (bytes r.start) (start r.start) (start r.end) a.ends 0 g),
+        pages-back-through-left v.bits (bytes r.start) (start r.start) (start r.end) a.ends all 0 g,
       )
 
-pub pages-once : (v : Width) → EachOnce (pages_of (width_of v)) (next_from (width_of v))
-pages-once v = each-once (pages_of (width_of v)) (next_from (width_of v)) (record { from_front = front-drawn v; from_back = back-drawn v })
+pub pages-once : (v : PageWidth) → EachOnce (pages_of v.bits) (next_from v.bits)
+pages-once v = each-once (pages_of v.bits) (next_from v.bits) (record { from_front = front-drawn v; from_back = back-drawn v })
 
-pub pages-inclusive-once : (v : Width) → EachOnce (pages_inclusive_of (width_of v)) (next_inclusive_from (width_of v))
+pub pages-inclusive-once : (v : PageWidth) → EachOnce (pages_inclusive_of v.bits) (next_inclusive_from v.bits)
 pages-inclusive-once v =
-    each-once (pages_inclusive_of (width_of v)) (next_inclusive_from (width_of v)) (record { from_front = front-inclusive-drawn v; from_back = back-inclusive-drawn v })
+    each-once (pages_inclusive_of v.bits) (next_inclusive_from v.bits) (record { from_front = front-inclusive-drawn v; from_back = back-inclusive-drawn v })

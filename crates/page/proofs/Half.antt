@@ -1,4 +1,4 @@
--- Draws to the last page of the low half and to the first of the high one give and leave what they should, at either width.
+-- Draws to the last page of the low half and to the first of the high one give and leave what they should, over the width.
 use Prim.Native.Nat.{ℕ, ◌+◌, ◌-◌, ◌*◌, ◌/◌, ◌≤◌}
 use mathlib.Core.Path.{◌≡◌}
 use mathlib.Core.Bool.{false}
@@ -17,9 +17,7 @@ use Rattle.laws.proofs.Kept.{front-low, back-high}
 use Rattle.laws.proofs.Halves.{top-low, bottom-high}
 use Rattle.laws.proofs.PagesLeft.{front-at-top, back-at-bottom}
 use Rattle.range.specs.declared.range_inclusive.RangeInclusive.{RangeInclusive}
-use Rattle.addr.specs.Widths.{width_of}
-use Rattle.addr.specs.declared.width.Width.{Width}
-use Rattle.addr.proofs.Widths.{widths}
+use Rattle.laws.specs.Width.{PageWidth}
 use Rattle.page.specs.Page.{start, bytes}
 use Rattle.page.specs.Range.{len_inclusive}
 use Rattle.page.specs.Half.{EndsLowHalf, StartsHighHalf, DrawnToHalfEnd}
@@ -42,9 +40,9 @@ module _ (a b s n : ℕ) (k : len_through a b s ≡ n + 1) where
       let m : n + 1 - 1 - n ≡ 0 = omega arith in
       rw (k, back_at, lt-ltb n (n + 1) (omega arith), m, zero-mul s, add-zero)
 
-module _ (v : Width) (r : RangeInclusive Page) (n : ℕ) where
+module _ (v : PageWidth) (r : RangeInclusive Page) (n : ℕ) where
   abbrev w : ℕ
-  w = width_of v
+  w = v.bits
 
   abbrev a : ℕ
   a = start r.start
@@ -63,7 +61,7 @@ module _ (v : Width) (r : RangeInclusive Page) (n : ℕ) where
   low-length h =
       let x = accepted v r.start r.end h.given in
       let l = h.last in
-      lengths.through-apart w z a b (widths v) x.first-address x.last-address x.ends (λ o. omega (arith, o.end_high, x.ends.some, x.ends.halves))
+      lengths.through-apart w z a b v.width x.first-address x.last-address x.ends (λ o. omega (arith, o.end_high, x.ends.some, x.ends.halves))
 
   no-front-gap : EndsLowHalf w r → gap_front w a b z n ≡ false
   no-front-gap h = let p = ends h in let l = h.last in front-low w z a b n (omega (arith, p.some, p.halves))
@@ -75,12 +73,12 @@ module _ (v : Width) (r : RangeInclusive Page) (n : ℕ) where
   high-length h =
       let x = accepted v r.start r.end h.given in
       let l = h.first in
-      lengths.through-apart w z a b (widths v) x.first-address x.last-address x.ends (λ o. omega (arith, o.start_low, x.ends.halves))
+      lengths.through-apart w z a b v.width x.first-address x.last-address x.ends (λ o. omega (arith, o.start_low, x.ends.halves))
 
   no-back-gap : StartsHighHalf w r → gap_back w a b z n ≡ false
   no-back-gap h = let p = high-ends h in let l = h.first in back-high w z a b n (omega (arith, p.halves))
 
-pub drawn-to-half-end : (v : Width) → DrawnToHalfEnd (width_of v)
+pub drawn-to-half-end : (v : PageWidth) → DrawnToHalfEnd v.bits
 drawn-to-half-end v =
     record {
       front = λ r n h k.
@@ -88,14 +86,14 @@ drawn-to-half-end v =
       front-left = λ r n h k.
           let p = ends v r n h in
           let l = h.last in
-          let t = top-low (width_of v) (start r.start) (start r.end) (bytes r.start) (omega (arith, p.some, h.not_empty)) (omega (arith, p.some)) in
-          let (x, y) = front-at-top (width_of v) (bytes r.start) (start r.start) (start r.end) p (numbers_inclusive_in r.start r.end) n h.not_empty (omega arith) (rw (low-length v r n h) at k) in
+          let t = top-low v.bits (start r.start) (start r.end) (bytes r.start) (omega (arith, p.some, h.not_empty)) (omega (arith, p.some)) in
+          let (x, y) = front-at-top v.bits (bytes r.start) (start r.start) (start r.end) p (numbers_inclusive_in r.start r.end) n h.not_empty (omega arith) (rw (low-length v r n h) at k) in
           rw (← nth-inclusive-settled v r n h.given (no-front-gap v r n h)) (rw (x, y));
       back = λ r n h k. rw (← nth-back-inclusive-settled v r n h.given (no-back-gap v r n h), first-item (start r.start) (start r.end) (bytes r.start) n (rw (high-length v r n h) at k));
       back-left = λ r n h k.
           let p = high-ends v r n h in
           let l = h.first in
-          let t = bottom-high (width_of v) (start r.start) (start r.end) (omega arith) (omega (arith, h.not_empty)) in
-          let (x, y) = back-at-bottom (width_of v) (bytes r.start) (start r.start) (start r.end) p (numbers_inclusive_in r.start r.end) n h.not_empty (omega arith) (rw (high-length v r n h) at k) in
+          let t = bottom-high v.bits (start r.start) (start r.end) (omega arith) (omega (arith, h.not_empty)) in
+          let (x, y) = back-at-bottom v.bits (bytes r.start) (start r.start) (start r.end) p (numbers_inclusive_in r.start r.end) n h.not_empty (omega arith) (rw (high-length v r n h) at k) in
           rw (← nth-back-inclusive-settled v r n h.given (no-back-gap v r n h)) (rw (x, y));
     }

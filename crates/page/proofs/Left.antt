@@ -14,8 +14,7 @@ use Rattle.laws.proofs.Draw.{end-at-item}
 use Rattle.laws.proofs.PagesLeft.{pages-front-left, pages-back-left, pages-front-through-left, pages-back-through-left}
 use Rattle.range.specs.declared.range.Range.{Range}
 use Rattle.range.specs.declared.range_inclusive.RangeInclusive.{RangeInclusive}
-use Rattle.addr.specs.Widths.{width_of}
-use Rattle.addr.specs.declared.width.Width.{Width}
+use Rattle.laws.specs.Width.{PageWidth}
 use Rattle.page.specs.Page.{start, bytes}
 use Rattle.page.specs.Range.{refusal, pages, nth_of, nth_back_of, nth_inclusive_of, nth_back_inclusive_of, pages_of, pages_inclusive_of}
 use Rattle.page.specs.declared.page.Page.{Page}
@@ -26,21 +25,21 @@ answer-start : (x : Page) (o : Option ℕ) (i : Item) → item_answer pages x o 
 answer-start x none i h = cc
 answer-start x (some a) i h = let q : item a (bytes x) ≡ i = cc in ap (λ (j : Item). some j.start) q
 
-module _ (v : Width) (r : Range Page) (n : ℕ) (e : refusal (width_of v) r.start r.end ≡ 0) where
-  pub nth_left : gap_front (width_of v) (start r.start) (start r.end) (bytes r.start) n ≡ false → pages_of (width_of v) (nth_of (width_of v) r n).range ≡ drop (n + 1) (pages_of (width_of v) r)
+module _ (v : PageWidth) (r : Range Page) (n : ℕ) (e : refusal v.bits r.start r.end ≡ 0) where
+  pub nth_left : gap_front v.bits (start r.start) (start r.end) (bytes r.start) n ≡ false → pages_of v.bits (nth_of v.bits r n).range ≡ drop (n + 1) (pages_of v.bits r)
   nth_left g =
       let x = accepted v r.start r.end e in
-      rw (← nth-settled v r n e g) (pages-front-left (width_of v) (bytes r.start) (start r.start) (start r.end) x.ends n g)
+      rw (← nth-settled v r n e g) (pages-front-left v.bits (bytes r.start) (start r.start) (start r.end) x.ends n g)
 
-  pub nth-back-left : gap_back (width_of v) (start r.start) (start r.end) (bytes r.start) n ≡ false
-      → reverse (pages_of (width_of v) (nth_back_of (width_of v) r n).range) ≡ drop (n + 1) (reverse (pages_of (width_of v) r))
+  pub nth-back-left : gap_back v.bits (start r.start) (start r.end) (bytes r.start) n ≡ false
+      → reverse (pages_of v.bits (nth_back_of v.bits r n).range) ≡ drop (n + 1) (reverse (pages_of v.bits r))
   nth-back-left g =
       let x = accepted v r.start r.end e in
-      rw (← nth-back-settled v r n e g) (pages-back-left (width_of v) (bytes r.start) (start r.start) (start r.end) x.ends n g)
+      rw (← nth-back-settled v r n e g) (pages-back-left v.bits (bytes r.start) (start r.start) (start r.end) x.ends n g)
 
   -- the end left is the page drawn
-  pub nth-back-end : gap_back (width_of v) (start r.start) (start r.end) (bytes r.start) n ≡ false
-      → (i : Item) → (nth_back_of (width_of v) r n).answer ≡ gives i → start (nth_back_of (width_of v) r n).range.end ≡ i.start
+  pub nth-back-end : gap_back v.bits (start r.start) (start r.end) (bytes r.start) n ≡ false
+      → (i : Item) → (nth_back_of v.bits r n).answer ≡ gives i → start (nth_back_of v.bits r n).range.end ≡ i.start
   nth-back-end g i h =
       let x = accepted v r.start r.end e in
       let l = below (start r.start) (start r.end) (bytes r.start) in
@@ -48,20 +47,20 @@ module _ (v : Width) (r : Range Page) (n : ℕ) (e : refusal (width_of v) r.star
       rw (← nth-back-settled v r n e g)
       (end-at-item l (start r.start) (start r.end) (bytes r.start) n i.start x.ends.some x.whole x.last-whole (answer-start r.start (get_elem? (reverse l) n) i q))
 
-module _ (v : Width) (r : RangeInclusive Page) (n : ℕ) (e : refusal (width_of v) r.start r.end ≡ 0) where
+module _ (v : PageWidth) (r : RangeInclusive Page) (n : ℕ) (e : refusal v.bits r.start r.end ≡ 0) where
   abbrev items : List ℕ
   items = through (start r.start) (start r.end) (bytes r.start)
 
-  pub nth-inclusive-left : gap_front (width_of v) (start r.start) (start r.end) (bytes r.start) n ≡ false
-      → pages_inclusive_of (width_of v) (nth_inclusive_of (width_of v) r n).range ≡ drop (n + 1) (pages_inclusive_of (width_of v) r)
+  pub nth-inclusive-left : gap_front v.bits (start r.start) (start r.end) (bytes r.start) n ≡ false
+      → pages_inclusive_of v.bits (nth_inclusive_of v.bits r n).range ≡ drop (n + 1) (pages_inclusive_of v.bits r)
   nth-inclusive-left g =
       let x = accepted v r.start r.end e in
       rw (← nth-inclusive-settled v r n e g)
-      (pages-front-through-left (width_of v) (bytes r.start) (start r.start) (start r.end) x.ends items n g)
+      (pages-front-through-left v.bits (bytes r.start) (start r.start) (start r.end) x.ends items n g)
 
-  pub nth-back-inclusive-left : gap_back (width_of v) (start r.start) (start r.end) (bytes r.start) n ≡ false
-      → reverse (pages_inclusive_of (width_of v) (nth_back_inclusive_of (width_of v) r n).range) ≡ drop (n + 1) (reverse (pages_inclusive_of (width_of v) r))
+  pub nth-back-inclusive-left : gap_back v.bits (start r.start) (start r.end) (bytes r.start) n ≡ false
+      → reverse (pages_inclusive_of v.bits (nth_back_inclusive_of v.bits r n).range) ≡ drop (n + 1) (reverse (pages_inclusive_of v.bits r))
   nth-back-inclusive-left g =
       let x = accepted v r.start r.end e in
       rw (← nth-back-inclusive-settled v r n e g)
-      (pages-back-through-left (width_of v) (bytes r.start) (start r.start) (start r.end) x.ends items n g)
+      (pages-back-through-left v.bits (bytes r.start) (start r.start) (start r.end) x.ends items n g)

@@ -1,4 +1,4 @@
--- What `len` and `size` of a range of pages answer, at either width, and where they answer as before.
+-- What `len` and `size` of a range of pages answer, over the width, and where they answer as before.
 use Prim.Native.Nat.{ℕ, ◌+◌, ◌-◌, ◌*◌, ◌/◌, ◌^◌, ◌≤◌, ◌<◌}
 use mathlib.Core.Path.{◌≡◌, sym, ap, ◌∙◌}
 use mathlib.Core.Bool.{Bool, true, false, cond}
@@ -10,7 +10,7 @@ use lib.Dec.{eqb}
 use lib.ListN.{length}
 use Rattle.answer.specs.Outcome.{Outcome, gives, refuses, unless, and_then}
 use Rattle.answer.specs.Refusal.{overflow}
-use Rattle.laws.specs.Width.{low, OverGap, InOneHalf, both_low, both_high}
+use Rattle.laws.specs.Width.{low, OverGap, InOneHalf, both_low, both_high, PageWidth}
 use Rattle.laws.specs.Run.{len_below, len_through, pages_below, pages_through, page_len_below, page_len_through}
 use Rattle.laws.specs.Steps.{steps}
 use Rattle.laws.specs.Address.{virt}
@@ -27,9 +27,6 @@ use Rattle.laws.proofs.Listed.{lists-pages}
 use Rattle.table.specs.Level.{power_of, bytes_of}
 use Rattle.table.specs.declared.size.PageSize.{PageSize}
 use Rattle.table.proofs.Sizes.{bounds}
-use Rattle.addr.specs.Widths.{width_of}
-use Rattle.addr.specs.declared.width.Width.{Width}
-use Rattle.addr.proofs.Widths.{widths, wide}
 use Rattle.page_draw.proofs.Accepted.{Accepted}
 use Rattle.page.specs.Page.{start, bytes}
 use Rattle.page.specs.Range.{refusal}
@@ -47,16 +44,16 @@ refuses-none : (k n : ℕ) → gives n ≡ refuses k → ⊥
 refuses-none k n e = let z : ◌≡◌ {A = ℕ} 0 1 = cc in absurd (omega arith)
 
 -- of the sizes of pages
-pub counts : (v : Width) (s : PageSize) → CountsPages (width_of v) (bytes_of s)
-counts v s = counts-pages (width_of v) (power_of s) (widths v) (omega (arith, bounds s, wide v))
+pub counts : (v : PageWidth) (s : PageSize) → CountsPages v.bits (bytes_of s)
+counts v s = counts-pages v.bits (power_of s) v.width (omega (arith, bounds s, v.wide))
 
-pub lists : (v : Width) (s : PageSize) → ListsPages (width_of v) (bytes_of s)
-lists v s = lists-pages (width_of v) (power_of s) (widths v) (omega (arith, bounds s, wide v))
+pub lists : (v : PageWidth) (s : PageSize) → ListsPages v.bits (bytes_of s)
+lists v s = lists-pages v.bits (power_of s) v.width (omega (arith, bounds s, v.wide))
 
 -- two pages as the ends of a range
-module _ (v : Width) (x y : Page) where
+module _ (v : PageWidth) (x y : Page) where
   abbrev w : ℕ
-  w = width_of v
+  w = v.bits
 
   abbrev a : ℕ
   a = start x
@@ -83,10 +80,10 @@ module _ (v : Width) (x y : Page) where
     accepted = ranges.accepted v x y e
 
     first : IsPage w z a
-    first = record { address = (canonical-fixed w (widths v) a).1 accepted.first-address; whole = accepted.whole }
+    first = record { address = (canonical-fixed w v.width a).1 accepted.first-address; whole = accepted.whole }
 
     last : IsPage w z b
-    last = record { address = (canonical-fixed w (widths v) b).1 accepted.last-address; whole = accepted.last-whole }
+    last = record { address = (canonical-fixed w v.width b).1 accepted.last-address; whole = accepted.last-whole }
 
     below : page_len_below w a b z ≡ length (pages_below w a b z)
     below = (counts v x.size).below a b first last
@@ -95,7 +92,7 @@ module _ (v : Width) (x y : Page) where
     through = (counts v x.size).through a b first last
 
     in_order : a ≤ b → low w a ≤ low w b
-    in_order h = by_cases (dec_lt (low w b) (low w a)) (λ l. absurd (omega (arith, (low-order w (widths v) b a accepted.last-address accepted.first-address).1 l))) (λ n. omega arith)
+    in_order h = by_cases (dec_lt (low w b) (low w a)) (λ l. absurd (omega (arith, (low-order w v.width b a accepted.last-address accepted.first-address).1 l))) (λ n. omega arith)
 
   below-steps : a ≤ b → given (gives (page_len_below w a b z)) ≡ steps_of w x y
   unfolding len_below
@@ -113,12 +110,12 @@ module _ (v : Width) (x y : Page) where
   nothing : refusal w x y ≡ 0 → b ≤ a → page_len_below w a b z ≡ 0
   nothing e h =
       let k = accepted e in
-      laws.below-apart w z a b (widths v) k.first-address k.last-address k.ends (λ o. omega (arith, o.start_low, o.end_high, k.ends.halves)) ∙ below_none a b z h
+      laws.below-apart w z a b v.width k.first-address k.last-address k.ends (λ o. omega (arith, o.start_low, o.end_high, k.ends.halves)) ∙ below_none a b z h
 
   nothing-through : refusal w x y ≡ 0 → b < a → page_len_through w a b z ≡ 0
   nothing-through e h =
       let k = accepted e in
-      laws.through-apart w z a b (widths v) k.first-address k.last-address k.ends (λ o. omega (arith, o.start_low, o.end_high, k.ends.halves)) ∙ through-none a b z h
+      laws.through-apart w z a b v.width k.first-address k.last-address k.ends (λ o. omega (arith, o.start_low, o.end_high, k.ends.halves)) ∙ through-none a b z h
 
   -- as before, unless the range is over the gap
   same-below : (f : ℕ → ℕ) → (IsOverGap w x y → ⊥) → given (gives (f (page_len_below w a b z))) ≡ given (gives (f (len_below a b z)))
@@ -126,14 +123,14 @@ module _ (v : Width) (x y : Page) where
       alike _ _
       (λ e.
       let k = accepted e in
-      ap (λ m. gives (f m)) (laws.below-apart w z a b (widths v) k.first-address k.last-address k.ends (λ o. n (record { given = e; over = o }))))
+      ap (λ m. gives (f m)) (laws.below-apart w z a b v.width k.first-address k.last-address k.ends (λ o. n (record { given = e; over = o }))))
 
   same-through : (f : ℕ → ℕ) → (IsOverGap w x y → ⊥) → given (gives (f (page_len_through w a b z))) ≡ given (gives (f (len_through a b z)))
   same-through f n =
       alike _ _
       (λ e.
       let k = accepted e in
-      ap (λ m. gives (f m)) (laws.through-apart w z a b (widths v) k.first-address k.last-address k.ends (λ o. n (record { given = e; over = o }))))
+      ap (λ m. gives (f m)) (laws.through-apart w z a b v.width k.first-address k.last-address k.ends (λ o. n (record { given = e; over = o }))))
 
   -- over the gap
   module _ (o : IsOverGap w x y) where
@@ -145,13 +142,13 @@ module _ (v : Width) (x y : Page) where
     ends = accepted o.given
 
     some-room : 0 < room
-    some-room = gap-some w z a b (widths v) ends.ends
+    some-room = gap-some w z a b v.width ends.ends
 
     counted-below : len_below a b z ≡ page_len_below w a b z + room
-    counted-below = laws.gap-counted w z a b (widths v) ends.first-address ends.last-address ends.ends o.over
+    counted-below = laws.gap-counted w z a b v.width ends.first-address ends.last-address ends.ends o.over
 
     counted-through : len_through a b z ≡ page_len_through w a b z + room
-    counted-through = laws.gap-counted-through w z a b (widths v) ends.first-address ends.last-address ends.ends o.over
+    counted-through = laws.gap-counted-through w z a b v.width ends.first-address ends.last-address ends.ends o.over
 
     -- a length with the gap is another, and so are its bytes
     longer : (m n : ℕ) → n ≡ m + room → m ≡ n → ⊥
@@ -187,7 +184,7 @@ module _ (v : Width) (x y : Page) where
     λ n. same-through (λ m. m * z) n ∙ alike _ _ (λ e. sym (unlimited (len_through a b z * z) e n)),
   )
 
-pub length-of : (v : Width) → Length (width_of v)
+pub length-of : (v : PageWidth) → Length v.bits
 length-of v =
     record {
       len = λ r e. rw e (ap gives (below v r.start r.end e));
@@ -202,11 +199,11 @@ length-of v =
       steps-inclusive = λ r h. through-steps v r.start r.end h;
     }
 
-in-one-half : (v : Width) (x y : Page) → InOneHalf (width_of v) (start x) (start y) → IsOverGap (width_of v) x y → ⊥
-in-one-half v x y (both_low h k) o = let s = sizes (width_of v) (widths v) in omega (arith, o.over.end_high, s)
-in-one-half v x y (both_high h k) o = let s = sizes (width_of v) (widths v) in omega (arith, o.over.start_low, s)
+in-one-half : (v : PageWidth) (x y : Page) → InOneHalf v.bits (start x) (start y) → IsOverGap v.bits x y → ⊥
+in-one-half v x y (both_low h k) o = let s = sizes v.bits v.width in omega (arith, o.over.end_high, s)
+in-one-half v x y (both_high h k) o = let s = sizes v.bits v.width in omega (arith, o.over.start_low, s)
 
-pub length-as-before : (v : Width) → LengthAsBefore (width_of v)
+pub length-as-before : (v : PageWidth) → LengthAsBefore v.bits
 length-as-before v =
     record {
       len = λ r. (λ h o. differs v r.start r.end o _ _ (longer v r.start r.end o _ _ (counted-below v r.start r.end o)) h, same-below v r.start r.end (λ n. n));

@@ -8,3 +8,4 @@ pub mod Gap
 pub mod Before
 pub mod Length
 pub mod Half
+pub mod AtWidths

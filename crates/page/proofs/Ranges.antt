@@ -10,8 +10,7 @@ use Rattle.laws.proofs.Kind.{guarded_gives}
 use Rattle.range.specs.Ranges.{made, made_inclusive}
 use Rattle.range.specs.declared.range.Range.{Range}
 use Rattle.range.specs.declared.range_inclusive.RangeInclusive.{RangeInclusive}
-use Rattle.addr.specs.Widths.{width_of}
-use Rattle.addr.specs.declared.width.Width.{Width}
+use Rattle.laws.specs.Width.{PageWidth}
 use Rattle.page_draw.specs.Draws.{nth_below, nth_back_below, nth_through, nth_back_through}
 use Rattle.page_draw.proofs.Accepted as ends
 use Rattle.page_draw.proofs.Accepted.{Accepted}
@@ -21,8 +20,8 @@ use Rattle.page.specs.Range.{refusal, pages, nth_of, nth_back_of, nth_inclusive_
 use Rattle.page.specs.declared.page.Page.{Page}
 
 -- what an accepted range is: two pages of one size
-module _ (v : Width) (x y : Page) (e : refusal (width_of v) x y ≡ 0) where
-  pub accepted : Accepted (width_of v) (start x) (bytes x) (start y) (bytes y)
+module _ (v : PageWidth) (x y : Page) (e : refusal v.bits x y ≡ 0) where
+  pub accepted : Accepted v.bits (start x) (bytes x) (start y) (bytes y)
   accepted = ends.accepted v (start x) x.size (start y) y.size e
 
 -- the draws on the numbers of a range from `x` to `y`, of the items `l`
@@ -56,26 +55,26 @@ abbrev pub numbers_len_inclusive : RangeInclusive Page → ℕ
 numbers_len_inclusive r = len_through (start r.start) (start r.end) (bytes r.start)
 
 -- each draw away from the gap: by the numbers of the range alone
-module _ (v : Width) (r : Range Page) (n : ℕ) (e : refusal (width_of v) r.start r.end ≡ 0) where
-  pub nth-settled : draw.gap_front (width_of v) (start r.start) (start r.end) (bytes r.start) n ≡ false → settled pages made r.start r.end (front r.start r.end n (numbers_in r.start r.end)) ≡ nth_of (width_of v) r n
+module _ (v : PageWidth) (r : Range Page) (n : ℕ) (e : refusal v.bits r.start r.end ≡ 0) where
+  pub nth-settled : draw.gap_front v.bits (start r.start) (start r.end) (bytes r.start) n ≡ false → settled pages made r.start r.end (front r.start r.end n (numbers_in r.start r.end)) ≡ nth_of v.bits r n
   nth-settled g =
-      guarded_gives pages made r.start r.end (nth_below (width_of v) (start r.start) (bytes r.start) (start r.end) (bytes r.end) n) (front r.start r.end n (numbers_in r.start r.end))
-      (numbers.nth_below v (start r.start) r.start.size (start r.end) r.end.size n e g)
+      guarded_gives pages made r.start r.end (nth_below v.bits (start r.start) (bytes r.start) (start r.end) (bytes r.end) n) (front r.start r.end n (numbers_in r.start r.end))
+      (numbers.front-exclusive v (start r.start) r.start.size (start r.end) r.end.size n e g)
 
-  pub nth-back-settled : draw.gap_back (width_of v) (start r.start) (start r.end) (bytes r.start) n ≡ false → settled pages made r.start r.end (back r.start r.end n (numbers_in r.start r.end)) ≡ nth_back_of (width_of v) r n
+  pub nth-back-settled : draw.gap_back v.bits (start r.start) (start r.end) (bytes r.start) n ≡ false → settled pages made r.start r.end (back r.start r.end n (numbers_in r.start r.end)) ≡ nth_back_of v.bits r n
   nth-back-settled g =
-      guarded_gives pages made r.start r.end (nth_back_below (width_of v) (start r.start) (bytes r.start) (start r.end) (bytes r.end) n) (back r.start r.end n (numbers_in r.start r.end))
-      (numbers.nth_back_below v (start r.start) r.start.size (start r.end) r.end.size n e g)
+      guarded_gives pages made r.start r.end (nth_back_below v.bits (start r.start) (bytes r.start) (start r.end) (bytes r.end) n) (back r.start r.end n (numbers_in r.start r.end))
+      (numbers.back-exclusive v (start r.start) r.start.size (start r.end) r.end.size n e g)
 
-module _ (v : Width) (r : RangeInclusive Page) (n : ℕ) (e : refusal (width_of v) r.start r.end ≡ 0) where
-  pub nth-inclusive-settled : draw.gap_front (width_of v) (start r.start) (start r.end) (bytes r.start) n ≡ false
-      → settled pages made_inclusive r.start r.end (front_inclusive (width_of v) r.start r.end n (numbers_inclusive_in r.start r.end)) ≡ nth_inclusive_of (width_of v) r n
+module _ (v : PageWidth) (r : RangeInclusive Page) (n : ℕ) (e : refusal v.bits r.start r.end ≡ 0) where
+  pub nth-inclusive-settled : draw.gap_front v.bits (start r.start) (start r.end) (bytes r.start) n ≡ false
+      → settled pages made_inclusive r.start r.end (front_inclusive v.bits r.start r.end n (numbers_inclusive_in r.start r.end)) ≡ nth_inclusive_of v.bits r n
   nth-inclusive-settled g =
-      guarded_gives pages made_inclusive r.start r.end (nth_through (width_of v) (start r.start) (bytes r.start) (start r.end) (bytes r.end) n)
-      (front_inclusive (width_of v) r.start r.end n (numbers_inclusive_in r.start r.end)) (numbers.front-inclusive v (start r.start) r.start.size (start r.end) r.end.size n e g)
+      guarded_gives pages made_inclusive r.start r.end (nth_through v.bits (start r.start) (bytes r.start) (start r.end) (bytes r.end) n)
+      (front_inclusive v.bits r.start r.end n (numbers_inclusive_in r.start r.end)) (numbers.front-inclusive v (start r.start) r.start.size (start r.end) r.end.size n e g)
 
-  pub nth-back-inclusive-settled : draw.gap_back (width_of v) (start r.start) (start r.end) (bytes r.start) n ≡ false
-      → settled pages made_inclusive r.start r.end (back_inclusive (width_of v) r.start r.end n (numbers_inclusive_in r.start r.end)) ≡ nth_back_inclusive_of (width_of v) r n
+  pub nth-back-inclusive-settled : draw.gap_back v.bits (start r.start) (start r.end) (bytes r.start) n ≡ false
+      → settled pages made_inclusive r.start r.end (back_inclusive v.bits r.start r.end n (numbers_inclusive_in r.start r.end)) ≡ nth_back_inclusive_of v.bits r n
   nth-back-inclusive-settled g =
-      guarded_gives pages made_inclusive r.start r.end (nth_back_through (width_of v) (start r.start) (bytes r.start) (start r.end) (bytes r.end) n)
-      (back_inclusive (width_of v) r.start r.end n (numbers_inclusive_in r.start r.end)) (numbers.back-inclusive v (start r.start) r.start.size (start r.end) r.end.size n e g)
+      guarded_gives pages made_inclusive r.start r.end (nth_back_through v.bits (start r.start) (bytes r.start) (start r.end) (bytes r.end) n)
+      (back_inclusive v.bits r.start r.end n (numbers_inclusive_in r.start r.end)) (numbers.back-inclusive v (start r.start) r.start.size (start r.end) r.end.size n e g)

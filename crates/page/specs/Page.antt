@@ -1,6 +1,6 @@
 -- What the calls on pages answer, beside what they share with frames, over the width `w`. The sentences are those of document 01, "Pages".
-use Rattle.std.specs.Prelude.{ℕ, ◌-◌, ◌*◌, ◌/◌, List, [], ◌∷◌, leb, get_or, Option, Result}
-use Rattle.answer.specs.Outcome.{Outcome, gives, unless, and_then}
+use Rattle.std.specs.Prelude.{ℕ, ◌-◌, ◌*◌, ◌/◌, Bool, cond, ◌||◌, List, [], ◌∷◌, leb, eqb, get_or, Option, Result}
+use Rattle.answer.specs.Outcome.{Outcome, gives, none, unless, only_if, and_then}
 use Rattle.answer.specs.Answers.{outcome_of, optional_of}
 use Rattle.answer.specs.Refusal.{sizes_differ}
 use Rattle.answer.specs.declared.refusal.Refusal.{Refusal}
@@ -35,9 +35,13 @@ page_of = outcome_of item_of
 abbrev pub page_step_of : Result (Option Page) Refusal → Outcome Item
 page_step_of = optional_of item_of
 
--- a page's index at any level is that of its start
+-- a page's index at a level is that of its start, also below its own
 abbrev pub page_index : ℕ → ℕ → ℕ → ℕ → Outcome ℕ
 page_index w a z l = given_item (virt w) a z (gives (index l a))
+
+-- the same at a width with so many levels: none where it has no such level (document 02, request Four)
+abbrev pub page_level_index : (w levels a z l : ℕ) → Outcome ℕ
+page_level_index w levels a z l = given_item (virt w) a z (only_if (leb l levels) (index l a))
 
 -- `p1_index`, `p2_index`: the source has them only for pages that are no larger than an entry of the level spans; 7 for the others
 abbrev pub own_index : ℕ → ℕ → ℕ → ℕ → Outcome ℕ
@@ -60,6 +64,16 @@ from_indices_2mib p4 p3 p2 = given_index p4 (given_index p3 (given_index p2 (ass
 
 abbrev pub from_indices_1gib : ℕ → ℕ → Outcome Item
 from_indices_1gib p4 p3 = given_index p4 (given_index p3 (assembled_page 48 4 (0 ∷ 0 ∷ p3 ∷ p4 ∷ []) 0x4000_0000))
+
+-- document 02, request Four: "level 5 .. is the first index when a page is assembled", of any size: the levels below have index 0. A width without level 5 has index 0 there only: else
+-- there is no such page
+abbrev pub fifth_index_fits : (levels p5 : ℕ) → Bool
+fifth_index_fits levels p5 = leb 5 levels || eqb p5 0
+
+unfoldable pub page_of_indices : (w levels p5 p4 p3 p2 p1 z : ℕ) → Outcome Item
+page_of_indices w levels p5 p4 p3 p2 p1 z =
+    given_index p5 (given_index p4 (given_index p3 (given_index p2 (given_index p1
+    (cond (fifth_index_fits levels p5) (assembled_page w levels (p1 ∷ p2 ∷ p3 ∷ p4 ∷ p5 ∷ []) z) none)))))
 
 -- "the wrappers above the address steps: `None` also if count × size passes 64 bits": such a count is past the last page anyway
 abbrev pub page_forward : ℕ → ℕ → ℕ → ℕ → Outcome Item

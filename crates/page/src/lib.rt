@@ -4,7 +4,9 @@
 mod indices;
 mod page;
 mod page_range;
-mod width;
+mod pages;
+mod pages_range;
 
 pub use page::Page;
 pub use page_range::{PageRange, PageRangeInclusive, as_4kib_page_range};
+pub use pages::Pages;

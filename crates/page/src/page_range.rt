@@ -1,4 +1,4 @@
-// Ranges of pages, without their end and with it.
+// Ranges of pages, without their end and with it, with the source's names, at 48 bits.
 ghost use Rattle.std.specs.Prelude.{◌≡◌};
 ghost use Rattle.laws.specs.Address.{virt};
 ghost use Rattle.laws.specs.Range.{make_range};
@@ -8,12 +8,12 @@ ghost use Rattle.page.specs.Range.{range_of, range_inclusive_of, as_4kib};
 ghost use Rattle.page.specs.Range as pages;
 
 use crate::page::Page;
+use crate::pages::Pages;
 use addr::{VirtAddr, Width};
 use answer::Refusal;
 use draw::Draw;
-use item::{Item, check_both};
+use item::Item;
 use range::{Range, RangeInclusive, RangeItem};
-use table::PageSize;
 
 pub type PageRange = Range<Page>;
 
@@ -37,20 +37,13 @@ impl Page {
 
 // The same range of addresses as 4 KiB pages; 7 unless the size is 2 MiB. No method, since the type of ranges
 // is of another crate.
-#[tactic(auto, using(answer::proofs::Refused::refused_number))]
 pub fn as_4kib_page_range(range: PageRange) -> Result<PageRange, Refusal>
     ensures { range_of result ≡ as_4kib 48 (start range.start) (bytes range.start) (start range.end) (bytes range.end) }
 {
-    let Range { start, end } = range;
-    check_both(Width::Bits48, start.item(), end.item())?;
-    if start.size != PageSize::Size2MiB {
-        return Err(Refusal::SizesDiffer);
+    Pages {
+        width: Width::Bits48,
     }
-    let size = PageSize::Size4KiB;
-    Ok(Range {
-        start: Page { size, ..start },
-        end: Page { size, ..end },
-    })
+    .as_4kib_page_range(range)
 }
 
 impl RangeItem for Page {

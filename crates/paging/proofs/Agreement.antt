@@ -28,7 +28,7 @@ use Rattle.paging.specs.Entry.{entry}
 use Rattle.paging.specs.Memory.{table_at}
 use Rattle.paging.specs.Translate.{translated, image_refusal, root_table, page_number, translation}
 use Rattle.paging.specs.Search.{Report, page_item, frame_item, report, image_pages, search_refusal, searching}
-use Rattle.addr.specs.declared.width.Width.TheVariants.{Bits48}
+use Rattle.addr.specs.declared.width.Width.TheVariants.{Bits48, Bits57}
 use Rattle.addr.proofs.Widths.{widths}
 use Rattle.paging.specs.Agreement.{state_in, translated_pages, AtFrame, PagesTranslated, IsPage, Reported, Reports, call_from, RunsAgree}
 
@@ -160,6 +160,12 @@ runs-agree w levels v e image base root ok = (
 pub runs-agree-48 : RunsAgree 48 4
 runs-agree-48 = runs-agree 48 4 (widths Bits48) refl
 
+pub runs-agree-57 : RunsAgree 57 5
+runs-agree-57 = runs-agree 57 5 (widths Bits57) refl
+
 -- the pages that it speaks of are those of the addresses
 pub page-numbers-48 : (image : List ℕ) (base root : ℕ) → PageNumbers 48 4 (translated_pages 48 4 image base root)
 page-numbers-48 image base root = page-numbers 48 4 (widths Bits48) refl (translated_pages 48 4 image base root).page
+
+pub page-numbers-57 : (image : List ℕ) (base root : ℕ) → PageNumbers 57 5 (translated_pages 57 5 image base root)
+page-numbers-57 image base root = page-numbers 57 5 (widths Bits57) refl (translated_pages 57 5 image base root).page

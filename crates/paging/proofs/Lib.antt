@@ -13,3 +13,4 @@ pub mod ListTurns
 pub mod Agreement
 pub mod ListAgreement
 pub mod Unread
+pub mod Levels

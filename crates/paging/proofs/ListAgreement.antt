@@ -22,7 +22,7 @@ use Rattle.mapping.specs.Agreement as calls
 use Rattle.mapping.proofs.Some.{some-searches, at_most, all_there, join}
 use Rattle.mapping.proofs.PageNumbers.{number-back}
 use Rattle.laws.specs.Item.{Item}
-use Rattle.addr.specs.declared.width.Width.TheVariants.{Bits48}
+use Rattle.addr.specs.declared.width.Width.TheVariants.{Bits48, Bits57}
 use Rattle.addr.proofs.Widths.{widths}
 use Rattle.paging.specs.Translate.{image_refusal, root_table}
 use Rattle.paging.specs.Search.{page_item, report, answer_words, image_pages}
@@ -154,3 +154,6 @@ lists_agree w levels v e image base root ok =
 
 pub lists-agree-48 : ListsAgree 48 4
 lists-agree-48 = lists_agree 48 4 (widths Bits48) refl
+
+pub lists-agree-57 : ListsAgree 57 5
+lists-agree-57 = lists_agree 57 5 (widths Bits57) refl

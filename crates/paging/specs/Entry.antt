@@ -1,5 +1,5 @@
 -- What the words of tables say, over the level of the table, the physical width `w` and whether no-execute is on. Today these are 52 and on.
--- The sentences are those of document 01, "Entry rules"; the manual is AMD64 APM volume 2, "Long-Mode Page Translation".
+-- The sentences are those of document 01, "Entry rules"; the manual is AMD64 APM volume 2, "Long-Mode Page Translation"; of five levels "The Intel SDM vol. 3A decides" (document 02, request Four).
 use Rattle.std.specs.Prelude.{ℕ, ◌+◌, ◌-◌, ◌*◌, ◌/◌, ◌%◌, ◌^◌, Bool, false, cond, not, ◌&&◌, ◌||◌, eqb, leb}
 use Rattle.std.specs.Int.Bits.{bit_and}
 use Rattle.laws.specs.Width.{bit}
@@ -18,7 +18,7 @@ rights_of v = rights (set 1 v) (set 2 v) (set 63 v)
 abbrev pub large : ℕ → ℕ → Bool
 large l v = leb 2 l && leb l 3 && set 7 v
 
--- "Reserved: bit 7 at level 4"
+-- "Reserved: bit 7 at level 4"; "level-5 entries follow the rules for level 4" (document 02, request Four)
 abbrev pub large_too_high : ℕ → ℕ → Bool
 large_too_high l v = leb 4 l && set 7 v
 

@@ -1,4 +1,5 @@
 pub mod Entry
+pub mod Levels
 pub mod Memory
 pub mod Span
 pub mod Packed

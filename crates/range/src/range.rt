@@ -47,8 +47,8 @@ impl<T: RangeItem> Range<T> {
         bytes_below(T::space(), self.start.item(), self.end.item())
     }
 
-    // What a draw on the numbers gives; leaves the range after it.
-    fn settle(&mut self, draw: Draw) -> Option<T>
+    // What a draw on the numbers gives; leaves the range after it. For draws at another space than the item's own.
+    pub fn settle(&mut self, draw: Draw) -> Option<T>
         ensures { answered T.kind (Ok result) self.new ≡ settled T.kind made self.old.start self.old.end (draw_of draw) }
     {
         let start = self.start;

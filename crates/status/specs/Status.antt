@@ -5,7 +5,7 @@ use Rattle.std.specs.Prelude.{ℕ}
 abbrev pub answered : ℕ
 answered = 0
 
--- a level or a page size is none of those there are
+-- a width, a level or a page size is none of those there are
 abbrev pub no_such_choice : ℕ
 no_such_choice = 253
 

@@ -5,7 +5,7 @@
 pub enum Status {
     // The answer's words are stored.
     Answered = 0,
-    // A level or a page size is none of those there are.
+    // A width, a level or a page size is none of those there are.
     NoSuchChoice = 253,
     // There is an answer, and the lent slice is too short for its words.
     NoRoom = 254,

@@ -2,16 +2,17 @@
 use Rattle.std.specs.Prelude.{ℕ, ◌+◌, ◌-◌, ◌^◌, ltb}
 use Rattle.answer.specs.Outcome.{Outcome, only_if}
 use Rattle.table.specs.declared.level.PageTableLevel.{PageTableLevel}
-use Rattle.table.specs.declared.level.PageTableLevel.TheVariants.{One, Two, Three, Four}
+use Rattle.table.specs.declared.level.PageTableLevel.TheVariants.{One, Two, Three, Four, Five}
 use Rattle.table.specs.declared.size.PageSize.{PageSize}
 use Rattle.table.specs.declared.size.PageSize.TheVariants.{Size4KiB, Size2MiB, Size1GiB}
 
--- "level 1 to 4"
+-- "level 1 to 4"; document 02, request Four: "level 5"
 abbrev pub level_of : PageTableLevel → ℕ
 level_of One = 1
 level_of Two = 2
 level_of Three = 3
 level_of Four = 4
+level_of Five = 5
 
 -- the next level, where there is one: the lowest is 1, the highest `top`
 abbrev pub lower : ℕ → Outcome ℕ

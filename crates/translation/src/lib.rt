@@ -5,4 +5,4 @@
 mod tables;
 mod translation;
 
-pub use translation::{TranslateAnswer, translate};
+pub use translation::{TranslateAnswer, translate, translate_at};

@@ -10,10 +10,7 @@ use addr::Width;
 pub fn levels(width: Width) -> u64
     ensures { result ≡ levels_of width }
 {
-    match width {
-        Width::Bits48 => 4,
-        Width::Bits57 => 5,
-    }
+    width.highest_level().number() as u64
 }
 
 // How many 4 KiB pages it has.

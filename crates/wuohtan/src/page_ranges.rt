@@ -1,97 +1,103 @@
 // Ranges of pages, as numbers: start and end, each with its size in bytes.
-#![tactic(auto, using(convention::proofs::Choice::bytes_with), unfolding(status::specs::Convention::leaves))]
+#![tactic(auto, using(convention::proofs::Choice::bits_with, convention::proofs::Choice::bytes_with), unfolding(status::specs::Convention::leaves))]
 
 ghost use Rattle.std.specs.Prelude.{◌≡◌};
 ghost use Rattle.laws.specs.Address.{virt};
 ghost use Rattle.laws.specs.Range.{make_range, empty_below, empty_through, count_below, count_through, bytes_below, bytes_through};
 ghost use Rattle.page.specs.Range.{nth_of, nth_back_of, nth_inclusive_of, nth_back_inclusive_of, as_4kib};
 ghost use Rattle.status.specs.Convention.{left, leaves, word, truth};
-ghost use Rattle.convention.specs.Choice.{of_size};
+ghost use Rattle.convention.specs.Choice.{at_width, of_size};
 ghost use Rattle.convention.specs.Ranges.{pair, page_draw_words, page_draw_inclusive_words, page_range_at, page_range_inclusive_at};
 
 use convention::{
-    choose_range, choose_range_inclusive, give_draw, give_range, give_range_inclusive, give_word,
+    choose_page_range, choose_page_range_inclusive, give_draw, give_range, give_range_inclusive,
+    give_word,
 };
-use page::{Page, as_4kib_page_range};
 use status::Status;
 
 pub fn wuohtan_page_range_new(
+    width: u64,
     start: u64,
     start_size: u64,
     end: u64,
     end_size: u64,
     out: &mut [u64],
 ) -> u8
-    ensures { left result out.new ≡ leaves (of_size start_size (of_size end_size (pair (make_range (virt 48) start start_size end end_size)))) out.old }
+    ensures { left result out.new ≡ leaves (at_width width (of_size start_size (of_size end_size (pair (make_range (virt width) start start_size end end_size))))) out.old }
 {
-    let Some(range) = choose_range::<Page>(start, start_size, end, end_size) else {
+    let Some((pages, range)) = choose_page_range(width, start, start_size, end, end_size) else {
         return Status::NoSuchChoice as u8;
     };
-    give_range(Page::range(range.start, range.end), out)
+    give_range(pages.range(range.start, range.end), out)
 }
 
 pub fn wuohtan_page_range_is_empty(
+    width: u64,
     start: u64,
     start_size: u64,
     end: u64,
     end_size: u64,
     out: &mut [u64],
 ) -> u8
-    ensures { left result out.new ≡ leaves (of_size start_size (of_size end_size (truth (empty_below (virt 48) start start_size end end_size)))) out.old }
+    ensures { left result out.new ≡ leaves (at_width width (of_size start_size (of_size end_size (truth (empty_below (virt width) start start_size end end_size))))) out.old }
 {
-    let Some(range) = choose_range::<Page>(start, start_size, end, end_size) else {
+    let Some((pages, range)) = choose_page_range(width, start, start_size, end, end_size) else {
         return Status::NoSuchChoice as u8;
     };
-    give_word(range.is_empty(), out)
+    give_word(pages.range_is_empty(range), out)
 }
 
 pub fn wuohtan_page_range_len(
+    width: u64,
     start: u64,
     start_size: u64,
     end: u64,
     end_size: u64,
     out: &mut [u64],
 ) -> u8
-    ensures { left result out.new ≡ leaves (of_size start_size (of_size end_size (word (count_below (virt 48) start start_size end end_size)))) out.old }
+    ensures { left result out.new ≡ leaves (at_width width (of_size start_size (of_size end_size (word (count_below (virt width) start start_size end end_size))))) out.old }
 {
-    let Some(range) = choose_range::<Page>(start, start_size, end, end_size) else {
+    let Some((pages, range)) = choose_page_range(width, start, start_size, end, end_size) else {
         return Status::NoSuchChoice as u8;
     };
-    give_word(range.len(), out)
+    give_word(pages.range_len(range), out)
 }
 
 pub fn wuohtan_page_range_size(
+    width: u64,
     start: u64,
     start_size: u64,
     end: u64,
     end_size: u64,
     out: &mut [u64],
 ) -> u8
-    ensures { left result out.new ≡ leaves (of_size start_size (of_size end_size (word (bytes_below (virt 48) start start_size end end_size)))) out.old }
+    ensures { left result out.new ≡ leaves (at_width width (of_size start_size (of_size end_size (word (bytes_below (virt width) start start_size end end_size))))) out.old }
 {
-    let Some(range) = choose_range::<Page>(start, start_size, end, end_size) else {
+    let Some((pages, range)) = choose_page_range(width, start, start_size, end, end_size) else {
         return Status::NoSuchChoice as u8;
     };
-    give_word(range.size(), out)
+    give_word(pages.range_size(range), out)
 }
 
 pub fn wuohtan_page_range_next(
+    width: u64,
     start: u64,
     start_size: u64,
     end: u64,
     end_size: u64,
     out: &mut [u64],
 ) -> u8
-    ensures { left result out.new ≡ leaves (of_size start_size (of_size end_size (page_draw_words (nth_of 48 (page_range_at start start_size end end_size) 0)))) out.old }
+    ensures { left result out.new ≡ leaves (at_width width (of_size start_size (of_size end_size (page_draw_words (nth_of width (page_range_at start start_size end end_size) 0))))) out.old }
 {
-    let Some(mut range) = choose_range::<Page>(start, start_size, end, end_size) else {
+    let Some((pages, mut range)) = choose_page_range(width, start, start_size, end, end_size) else {
         return Status::NoSuchChoice as u8;
     };
-    let answer = range.next();
+    let answer = pages.range_next(&mut range);
     give_draw(answer, range.start, range.end, out)
 }
 
 pub fn wuohtan_page_range_nth(
+    width: u64,
     start: u64,
     start_size: u64,
     end: u64,
@@ -99,32 +105,34 @@ pub fn wuohtan_page_range_nth(
     n: u64,
     out: &mut [u64],
 ) -> u8
-    ensures { left result out.new ≡ leaves (of_size start_size (of_size end_size (page_draw_words (nth_of 48 (page_range_at start start_size end end_size) n)))) out.old }
+    ensures { left result out.new ≡ leaves (at_width width (of_size start_size (of_size end_size (page_draw_words (nth_of width (page_range_at start start_size end end_size) n))))) out.old }
 {
-    let Some(mut range) = choose_range::<Page>(start, start_size, end, end_size) else {
+    let Some((pages, mut range)) = choose_page_range(width, start, start_size, end, end_size) else {
         return Status::NoSuchChoice as u8;
     };
-    let answer = range.nth(n);
+    let answer = pages.range_nth(&mut range, n);
     give_draw(answer, range.start, range.end, out)
 }
 
 pub fn wuohtan_page_range_next_back(
+    width: u64,
     start: u64,
     start_size: u64,
     end: u64,
     end_size: u64,
     out: &mut [u64],
 ) -> u8
-    ensures { left result out.new ≡ leaves (of_size start_size (of_size end_size (page_draw_words (nth_back_of 48 (page_range_at start start_size end end_size) 0)))) out.old }
+    ensures { left result out.new ≡ leaves (at_width width (of_size start_size (of_size end_size (page_draw_words (nth_back_of width (page_range_at start start_size end end_size) 0))))) out.old }
 {
-    let Some(mut range) = choose_range::<Page>(start, start_size, end, end_size) else {
+    let Some((pages, mut range)) = choose_page_range(width, start, start_size, end, end_size) else {
         return Status::NoSuchChoice as u8;
     };
-    let answer = range.next_back();
+    let answer = pages.range_next_back(&mut range);
     give_draw(answer, range.start, range.end, out)
 }
 
 pub fn wuohtan_page_range_nth_back(
+    width: u64,
     start: u64,
     start_size: u64,
     end: u64,
@@ -132,107 +140,120 @@ pub fn wuohtan_page_range_nth_back(
     n: u64,
     out: &mut [u64],
 ) -> u8
-    ensures { left result out.new ≡ leaves (of_size start_size (of_size end_size (page_draw_words (nth_back_of 48 (page_range_at start start_size end end_size) n)))) out.old }
+    ensures { left result out.new ≡ leaves (at_width width (of_size start_size (of_size end_size (page_draw_words (nth_back_of width (page_range_at start start_size end end_size) n))))) out.old }
 {
-    let Some(mut range) = choose_range::<Page>(start, start_size, end, end_size) else {
+    let Some((pages, mut range)) = choose_page_range(width, start, start_size, end, end_size) else {
         return Status::NoSuchChoice as u8;
     };
-    let answer = range.nth_back(n);
+    let answer = pages.range_nth_back(&mut range, n);
     give_draw(answer, range.start, range.end, out)
 }
 
 pub fn wuohtan_page_range_as_4kib_page_range(
+    width: u64,
     start: u64,
     start_size: u64,
     end: u64,
     end_size: u64,
     out: &mut [u64],
 ) -> u8
-    ensures { left result out.new ≡ leaves (of_size start_size (of_size end_size (pair (as_4kib 48 start start_size end end_size)))) out.old }
+    ensures { left result out.new ≡ leaves (at_width width (of_size start_size (of_size end_size (pair (as_4kib width start start_size end end_size))))) out.old }
 {
-    let Some(range) = choose_range::<Page>(start, start_size, end, end_size) else {
+    let Some((pages, range)) = choose_page_range(width, start, start_size, end, end_size) else {
         return Status::NoSuchChoice as u8;
     };
-    give_range(as_4kib_page_range(range), out)
+    give_range(pages.as_4kib_page_range(range), out)
 }
 
 pub fn wuohtan_page_range_inclusive_new(
+    width: u64,
     start: u64,
     start_size: u64,
     end: u64,
     end_size: u64,
     out: &mut [u64],
 ) -> u8
-    ensures { left result out.new ≡ leaves (of_size start_size (of_size end_size (pair (make_range (virt 48) start start_size end end_size)))) out.old }
+    ensures { left result out.new ≡ leaves (at_width width (of_size start_size (of_size end_size (pair (make_range (virt width) start start_size end end_size))))) out.old }
 {
-    let Some(range) = choose_range_inclusive::<Page>(start, start_size, end, end_size) else {
+    let Some((pages, range)) = choose_page_range_inclusive(width, start, start_size, end, end_size)
+    else {
         return Status::NoSuchChoice as u8;
     };
-    give_range_inclusive(Page::range_inclusive(range.start, range.end), out)
+    give_range_inclusive(pages.range_inclusive(range.start, range.end), out)
 }
 
 pub fn wuohtan_page_range_inclusive_is_empty(
+    width: u64,
     start: u64,
     start_size: u64,
     end: u64,
     end_size: u64,
     out: &mut [u64],
 ) -> u8
-    ensures { left result out.new ≡ leaves (of_size start_size (of_size end_size (truth (empty_through (virt 48) start start_size end end_size)))) out.old }
+    ensures { left result out.new ≡ leaves (at_width width (of_size start_size (of_size end_size (truth (empty_through (virt width) start start_size end end_size))))) out.old }
 {
-    let Some(range) = choose_range_inclusive::<Page>(start, start_size, end, end_size) else {
+    let Some((pages, range)) = choose_page_range_inclusive(width, start, start_size, end, end_size)
+    else {
         return Status::NoSuchChoice as u8;
     };
-    give_word(range.is_empty(), out)
+    give_word(pages.range_inclusive_is_empty(range), out)
 }
 
 pub fn wuohtan_page_range_inclusive_len(
+    width: u64,
     start: u64,
     start_size: u64,
     end: u64,
     end_size: u64,
     out: &mut [u64],
 ) -> u8
-    ensures { left result out.new ≡ leaves (of_size start_size (of_size end_size (word (count_through (virt 48) start start_size end end_size)))) out.old }
+    ensures { left result out.new ≡ leaves (at_width width (of_size start_size (of_size end_size (word (count_through (virt width) start start_size end end_size))))) out.old }
 {
-    let Some(range) = choose_range_inclusive::<Page>(start, start_size, end, end_size) else {
+    let Some((pages, range)) = choose_page_range_inclusive(width, start, start_size, end, end_size)
+    else {
         return Status::NoSuchChoice as u8;
     };
-    give_word(range.len(), out)
+    give_word(pages.range_inclusive_len(range), out)
 }
 
 pub fn wuohtan_page_range_inclusive_size(
+    width: u64,
     start: u64,
     start_size: u64,
     end: u64,
     end_size: u64,
     out: &mut [u64],
 ) -> u8
-    ensures { left result out.new ≡ leaves (of_size start_size (of_size end_size (word (bytes_through (virt 48) start start_size end end_size)))) out.old }
+    ensures { left result out.new ≡ leaves (at_width width (of_size start_size (of_size end_size (word (bytes_through (virt width) start start_size end end_size))))) out.old }
 {
-    let Some(range) = choose_range_inclusive::<Page>(start, start_size, end, end_size) else {
+    let Some((pages, range)) = choose_page_range_inclusive(width, start, start_size, end, end_size)
+    else {
         return Status::NoSuchChoice as u8;
     };
-    give_word(range.size(), out)
+    give_word(pages.range_inclusive_size(range), out)
 }
 
 pub fn wuohtan_page_range_inclusive_next(
+    width: u64,
     start: u64,
     start_size: u64,
     end: u64,
     end_size: u64,
     out: &mut [u64],
 ) -> u8
-    ensures { left result out.new ≡ leaves (of_size start_size (of_size end_size (page_draw_inclusive_words (nth_inclusive_of 48 (page_range_inclusive_at start start_size end end_size) 0)))) out.old }
+    ensures { left result out.new ≡ leaves (at_width width (of_size start_size (of_size end_size (page_draw_inclusive_words (nth_inclusive_of width (page_range_inclusive_at start start_size end end_size) 0))))) out.old }
 {
-    let Some(mut range) = choose_range_inclusive::<Page>(start, start_size, end, end_size) else {
+    let Some((pages, mut range)) = choose_page_range_inclusive(
+        width, start, start_size, end, end_size,
+    ) else {
         return Status::NoSuchChoice as u8;
     };
-    let answer = range.next();
+    let answer = pages.range_inclusive_next(&mut range);
     give_draw(answer, range.start, range.end, out)
 }
 
 pub fn wuohtan_page_range_inclusive_nth(
+    width: u64,
     start: u64,
     start_size: u64,
     end: u64,
@@ -240,32 +261,38 @@ pub fn wuohtan_page_range_inclusive_nth(
     n: u64,
     out: &mut [u64],
 ) -> u8
-    ensures { left result out.new ≡ leaves (of_size start_size (of_size end_size (page_draw_inclusive_words (nth_inclusive_of 48 (page_range_inclusive_at start start_size end end_size) n)))) out.old }
+    ensures { left result out.new ≡ leaves (at_width width (of_size start_size (of_size end_size (page_draw_inclusive_words (nth_inclusive_of width (page_range_inclusive_at start start_size end end_size) n))))) out.old }
 {
-    let Some(mut range) = choose_range_inclusive::<Page>(start, start_size, end, end_size) else {
+    let Some((pages, mut range)) = choose_page_range_inclusive(
+        width, start, start_size, end, end_size,
+    ) else {
         return Status::NoSuchChoice as u8;
     };
-    let answer = range.nth(n);
+    let answer = pages.range_inclusive_nth(&mut range, n);
     give_draw(answer, range.start, range.end, out)
 }
 
 pub fn wuohtan_page_range_inclusive_next_back(
+    width: u64,
     start: u64,
     start_size: u64,
     end: u64,
     end_size: u64,
     out: &mut [u64],
 ) -> u8
-    ensures { left result out.new ≡ leaves (of_size start_size (of_size end_size (page_draw_inclusive_words (nth_back_inclusive_of 48 (page_range_inclusive_at start start_size end end_size) 0)))) out.old }
+    ensures { left result out.new ≡ leaves (at_width width (of_size start_size (of_size end_size (page_draw_inclusive_words (nth_back_inclusive_of width (page_range_inclusive_at start start_size end end_size) 0))))) out.old }
 {
-    let Some(mut range) = choose_range_inclusive::<Page>(start, start_size, end, end_size) else {
+    let Some((pages, mut range)) = choose_page_range_inclusive(
+        width, start, start_size, end, end_size,
+    ) else {
         return Status::NoSuchChoice as u8;
     };
-    let answer = range.next_back();
+    let answer = pages.range_inclusive_next_back(&mut range);
     give_draw(answer, range.start, range.end, out)
 }
 
 pub fn wuohtan_page_range_inclusive_nth_back(
+    width: u64,
     start: u64,
     start_size: u64,
     end: u64,
@@ -273,11 +300,13 @@ pub fn wuohtan_page_range_inclusive_nth_back(
     n: u64,
     out: &mut [u64],
 ) -> u8
-    ensures { left result out.new ≡ leaves (of_size start_size (of_size end_size (page_draw_inclusive_words (nth_back_inclusive_of 48 (page_range_inclusive_at start start_size end end_size) n)))) out.old }
+    ensures { left result out.new ≡ leaves (at_width width (of_size start_size (of_size end_size (page_draw_inclusive_words (nth_back_inclusive_of width (page_range_inclusive_at start start_size end end_size) n))))) out.old }
 {
-    let Some(mut range) = choose_range_inclusive::<Page>(start, start_size, end, end_size) else {
+    let Some((pages, mut range)) = choose_page_range_inclusive(
+        width, start, start_size, end, end_size,
+    ) else {
         return Status::NoSuchChoice as u8;
     };
-    let answer = range.nth_back(n);
+    let answer = pages.range_inclusive_nth_back(&mut range, n);
     give_draw(answer, range.start, range.end, out)
 }

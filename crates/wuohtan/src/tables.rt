@@ -1,5 +1,5 @@
 // Table indices, offsets and levels, as numbers.
-#![tactic(auto, using(convention::proofs::Choice::levels), unfolding(status::specs::Convention::leaves))]
+#![tactic(auto, using(convention::proofs::Choice::bits_with, convention::proofs::Choice::number_with), unfolding(status::specs::Convention::leaves))]
 
 ghost use Rattle.std.specs.Prelude.{◌≡◌, [], ◌∷◌, ◌-◌, ◌%◌};
 ghost use Rattle.answer.specs.Outcome.{gives};
@@ -7,7 +7,7 @@ ghost use Rattle.laws.specs.Index.{span};
 ghost use Rattle.table.specs.Index.{small, index_forward, index_backward, index_steps};
 ghost use Rattle.table.specs.Level.{lower, higher};
 ghost use Rattle.status.specs.Convention.{left, leaves, word};
-ghost use Rattle.convention.specs.Choice.{at_level};
+ghost use Rattle.convention.specs.Choice.{at_width, at_level, levels_with};
 
 use convention::{choose_level, give_step, give_word, saturated};
 use status::{Status, give};
@@ -73,37 +73,45 @@ pub fn wuohtan_page_offset_into_u64(offset: u64, out: &mut [u64]) -> u8
     give_word(o.into_u64(), out)
 }
 
-pub fn wuohtan_page_table_level_next_lower_level(level: u64, out: &mut [u64]) -> u8
-    ensures { left result out.new ≡ leaves (at_level level (word (lower level))) out.old }
+pub fn wuohtan_page_table_level_next_lower_level(width: u64, level: u64, out: &mut [u64]) -> u8
+    ensures { left result out.new ≡ leaves (at_width width (at_level (levels_with width) level (word (lower level)))) out.old }
 {
-    let Some(l) = choose_level(level) else {
+    let Some((_, l)) = choose_level(width, level) else {
         return Status::NoSuchChoice as u8;
     };
     give_step(Ok(l.next_lower_level()), out)
 }
 
-pub fn wuohtan_page_table_level_next_higher_level(level: u64, out: &mut [u64]) -> u8
-    ensures { left result out.new ≡ leaves (at_level level (word (higher 4 level))) out.old }
+pub fn wuohtan_page_table_level_next_higher_level(width: u64, level: u64, out: &mut [u64]) -> u8
+    ensures { left result out.new ≡ leaves (at_width width (at_level (levels_with width) level (word (higher (levels_with width) level)))) out.old }
 {
-    let Some(l) = choose_level(level) else {
+    let Some((w, l)) = choose_level(width, level) else {
         return Status::NoSuchChoice as u8;
     };
-    give_step(Ok(l.next_higher_level()), out)
+    give_step(Ok(w.next_higher_level(l)), out)
 }
 
-pub fn wuohtan_page_table_level_table_address_space_alignment(level: u64, out: &mut [u64]) -> u8
-    ensures { left result out.new ≡ leaves (at_level level (gives (span level ∷ []))) out.old }
+pub fn wuohtan_page_table_level_table_address_space_alignment(
+    width: u64,
+    level: u64,
+    out: &mut [u64],
+) -> u8
+    ensures { left result out.new ≡ leaves (at_width width (at_level (levels_with width) level (gives (span level ∷ [])))) out.old }
 {
-    let Some(l) = choose_level(level) else {
+    let Some((_, l)) = choose_level(width, level) else {
         return Status::NoSuchChoice as u8;
     };
     give([l.table_address_space_alignment()], out)
 }
 
-pub fn wuohtan_page_table_level_entry_address_space_alignment(level: u64, out: &mut [u64]) -> u8
-    ensures { left result out.new ≡ leaves (at_level level (gives (span (level - 1) ∷ []))) out.old }
+pub fn wuohtan_page_table_level_entry_address_space_alignment(
+    width: u64,
+    level: u64,
+    out: &mut [u64],
+) -> u8
+    ensures { left result out.new ≡ leaves (at_width width (at_level (levels_with width) level (gives (span (level - 1) ∷ [])))) out.old }
 {
-    let Some(l) = choose_level(level) else {
+    let Some((_, l)) = choose_level(width, level) else {
         return Status::NoSuchChoice as u8;
     };
     give([l.entry_address_space_alignment()], out)

@@ -5,7 +5,7 @@ ghost use Rattle.laws.specs.Index.{span};
 ghost use Rattle.table.specs.Index.{small, index_forward, index_backward, index_steps};
 ghost use Rattle.table.specs.Level.{lower, higher};
 ghost use Rattle.status.specs.Convention.{left, leaves, word};
-ghost use Rattle.convention.specs.Choice.{at_level};
+ghost use Rattle.convention.specs.Choice.{at_width, at_level, levels_with};
 
 #[unsafe(no_mangle)]
 pub extern "C" fn wuohtan_page_table_index_new(index: u64, out: &mut [u64]) -> u8
@@ -83,35 +83,45 @@ pub extern "C" fn wuohtan_page_offset_into_u64(offset: u64, out: &mut [u64]) -> 
 }
 
 #[unsafe(no_mangle)]
-pub extern "C" fn wuohtan_page_table_level_next_lower_level(level: u64, out: &mut [u64]) -> u8
-    ensures { left result out.new ≡ leaves (at_level level (word (lower level))) out.old }
+pub extern "C" fn wuohtan_page_table_level_next_lower_level(
+    width: u64,
+    level: u64,
+    out: &mut [u64],
+) -> u8
+    ensures { left result out.new ≡ leaves (at_width width (at_level (levels_with width) level (word (lower level)))) out.old }
 {
-    wuohtan::tables::wuohtan_page_table_level_next_lower_level(level, out)
+    wuohtan::tables::wuohtan_page_table_level_next_lower_level(width, level, out)
 }
 
 #[unsafe(no_mangle)]
-pub extern "C" fn wuohtan_page_table_level_next_higher_level(level: u64, out: &mut [u64]) -> u8
-    ensures { left result out.new ≡ leaves (at_level level (word (higher 4 level))) out.old }
+pub extern "C" fn wuohtan_page_table_level_next_higher_level(
+    width: u64,
+    level: u64,
+    out: &mut [u64],
+) -> u8
+    ensures { left result out.new ≡ leaves (at_width width (at_level (levels_with width) level (word (higher (levels_with width) level)))) out.old }
 {
-    wuohtan::tables::wuohtan_page_table_level_next_higher_level(level, out)
+    wuohtan::tables::wuohtan_page_table_level_next_higher_level(width, level, out)
 }
 
 #[unsafe(no_mangle)]
 pub extern "C" fn wuohtan_page_table_level_table_address_space_alignment(
+    width: u64,
     level: u64,
     out: &mut [u64],
 ) -> u8
-    ensures { left result out.new ≡ leaves (at_level level (gives (span level ∷ []))) out.old }
+    ensures { left result out.new ≡ leaves (at_width width (at_level (levels_with width) level (gives (span level ∷ [])))) out.old }
 {
-    wuohtan::tables::wuohtan_page_table_level_table_address_space_alignment(level, out)
+    wuohtan::tables::wuohtan_page_table_level_table_address_space_alignment(width, level, out)
 }
 
 #[unsafe(no_mangle)]
 pub extern "C" fn wuohtan_page_table_level_entry_address_space_alignment(
+    width: u64,
     level: u64,
     out: &mut [u64],
 ) -> u8
-    ensures { left result out.new ≡ leaves (at_level level (gives (span (level - 1) ∷ []))) out.old }
+    ensures { left result out.new ≡ leaves (at_width width (at_level (levels_with width) level (gives (span (level - 1) ∷ [])))) out.old }
 {
-    wuohtan::tables::wuohtan_page_table_level_entry_address_space_alignment(level, out)
+    wuohtan::tables::wuohtan_page_table_level_entry_address_space_alignment(width, level, out)
 }

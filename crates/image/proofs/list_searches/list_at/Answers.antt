@@ -1,4 +1,4 @@
--- `list` writes the answers of the searches that have room.
+-- `list_at` writes the answers of the searches that have room.
 use Prim.Native.Nat.{ℕ}
 use mathlib.Core.Path.{subst, ◌∙◌}
 use mathlib.Core.List.{[], ◌∷◌}
@@ -9,7 +9,7 @@ use Rattle.paging.specs.List.{listing}
 use Rattle.paging.specs.Memory.{Segment, table_at}
 use Rattle.paging.proofs.Fields.{no-mask}
 use Rattle.image.proofs.Rooted.{root_pages}
-use Rattle.image.proofs.list_searches.list.Goals as goal
+use Rattle.image.proofs.list_searches.list_at.Goals as goal
 
 pub returns : goal.returns
 unfolding listing
