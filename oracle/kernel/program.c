@@ -10,7 +10,7 @@
 
 #include "wuohtan.h"
 
-enum { KIB4 = 4096, MIB2 = 1 << 21, BELOW = 64, WORDS = 2048, TABLES = WORDS / 512, BASE = 0x1000 };
+enum { KIB4 = 4096, MIB2 = 1 << 21, BELOW = 64, WORDS = 2560, TABLES = WORDS / 512, BASE = 0x1000, ROOT_57 = 0x5000 };
 
 void trap_on(void);
 void trap_off(void);
@@ -49,31 +49,48 @@ static int is(uint8_t status, const uint64_t *out, uint64_t a, uint64_t b, uint6
     return status == WUOHTAN_ANSWERED && out[0] == a && out[1] == b && out[2] == c && out[3] == d;
 }
 
-/* Whether all answers are right: of functions that use much of the stack, and of some that store much. */
-static int all_right(void) {
-    uint64_t out[5], answers[10];
-    uint8_t empty_tables[TABLES + 1] = {0xff, 0xff, 0xff, 0xff, 0xff};
+/* Whether the answers on addresses, levels and ranges are right, also at 57 bits. */
+static int numbers_right(void) {
+    uint64_t out[5];
     int right = 1;
     out[1] = out[2] = out[3] = 0;
-    right &= is(wuohtan_virt_addr_page_table_index(0xffff800000000000, 4, out, 5), out, 256, 0, 0, 0);
-    right &= is(wuohtan_page_table_level_table_address_space_alignment(4, out, 5), out, 1ul << 48, 0, 0, 0);
-    right &= is(wuohtan_page_table_level_entry_address_space_alignment(4, out, 5), out, 1ul << 39, 0, 0, 0);
-    right &= is(wuohtan_page_range_nth(0x1000, KIB4, 0x5000, KIB4, 2, out, 5), out, 1, 0x3000, 0x4000, 0x5000);
-    right &= is(wuohtan_page_range_inclusive_next(0x1000, KIB4, 0x5000, KIB4, out, 5), out, 1, 0x1000, 0x2000, 0x5000);
+    right &= is(wuohtan_virt_addr_page_table_index(48, 0xffff800000000000, 4, out, 5), out, 256, 0, 0, 0);
+    right &= is(wuohtan_virt_addr_page_table_index(57, 0xff00000000000000, 5, out, 5), out, 256, 0, 0, 0);
+    right &= is(wuohtan_page_table_level_table_address_space_alignment(48, 4, out, 5), out, 1ul << 48, 0, 0, 0);
+    right &= is(wuohtan_page_table_level_entry_address_space_alignment(48, 4, out, 5), out, 1ul << 39, 0, 0, 0);
+    right &= is(wuohtan_page_table_level_entry_address_space_alignment(57, 5, out, 5), out, 1ul << 48, 0, 0, 0);
+    right &= is(wuohtan_page_from_page_table_indices(57, 256, 0, 0, 1, 3, out, 5), out, 0xff00000000203000, 0, 0, 0);
+    right &= is(wuohtan_page_range_nth(48, 0x1000, KIB4, 0x5000, KIB4, 2, out, 5), out, 1, 0x3000, 0x4000, 0x5000);
+    right &= is(wuohtan_page_range_inclusive_next(48, 0x1000, KIB4, 0x5000, KIB4, out, 5), out, 1, 0x1000, 0x2000, 0x5000);
+    right &= is(wuohtan_page_range_nth_back(57, 0, KIB4, 1ul << 48, KIB4, 1, out, 5), out, 1, 0xffffffffe000, 0, 0xffffffffe000);
     right &= is(wuohtan_phys_frame_range_next_back(0, MIB2, 2 * MIB2, MIB2, out, 5), out, 1, MIB2, 0, MIB2);
     right &= is(wuohtan_phys_frame_range_inclusive_nth_back(0x1000, KIB4, 0x5000, KIB4, 1, out, 5), out, 1, 0x4000, 0x1000, 0x3000);
-    right &= wuohtan_virt_addr_new(1ul << 47, out, 5) == WUOHTAN_NOT_CANONICAL;
+    right &= wuohtan_virt_addr_new(48, 1ul << 47, out, 5) == WUOHTAN_NOT_CANONICAL;
+    right &= wuohtan_virt_addr_new(57, 1ul << 56, out, 5) == WUOHTAN_NOT_CANONICAL;
+    right &= wuohtan_virt_addr_try_new(56, 0, out, 5) == WUOHTAN_NO_SUCH_CHOICE;
+    return right;
+}
 
-    /* Case L of document 01: a 2 MiB page and a 4 KiB page after it are one run. */
-    right &= is(wuohtan_translate(image, WORDS, BASE, BASE, 0x200123, out, 5), out, 0, 0x600123, KIB4, 1);
-    right &= is(wuohtan_search(image, WORDS, BASE, BASE, 0, out, 5), out, 1, 0, 0x400000, 513) && out[4] == 1;
-    right &= wuohtan_list(image, WORDS, BASE, BASE, 0, empty_tables, TABLES, answers, 10, out, 5) == WUOHTAN_ANSWERED;
+/* Whether case L of document 01 is right, a 2 MiB page and a 4 KiB page after it as one run: translated, searched
+ * for and listed at this width, from its root. */
+static int case_l_right(uint64_t width, uint64_t root) {
+    uint64_t out[5], answers[10];
+    uint8_t empty_tables[TABLES + 1] = {0xff, 0xff, 0xff, 0xff, 0xff, 0xff};
+    int right = 1;
+    right &= is(wuohtan_translate(width, image, WORDS, BASE, root, 0x200123, out, 5), out, 0, 0x600123, KIB4, 1);
+    right &= is(wuohtan_search(width, image, WORDS, BASE, root, 0, out, 5), out, 1, 0, 0x400000, 513) && out[4] == 1;
+    right &= wuohtan_list(width, image, WORDS, BASE, root, 0, empty_tables, TABLES, answers, 10, out, 5) == WUOHTAN_ANSWERED;
     right &= out[0] == 2 && out[1] == 1;
     right &= is(WUOHTAN_ANSWERED, answers, 1, 0, 0x400000, 513) && answers[4] == 1 && answers[5] == 0;
     /* None of the tables holds nothing, and the byte behind them was not lent. */
     for (int i = 0; i <= TABLES; i++)
         right &= empty_tables[i] == (i < TABLES ? 0 : 0xff);
     return right;
+}
+
+/* Whether all answers are right: of functions that use much of the stack, and of some that store much. */
+static int all_right(void) {
+    return numbers_right() & case_l_right(48, BASE) & case_l_right(57, ROOT_57);
 }
 
 static int say(const char *text) {
@@ -91,6 +108,7 @@ int run(void) {
     struct action action = {interrupt, SA_SIGINFO | SA_ONSTACK | 0x04000000 /* restorer */, signal_return, 0};
 
     image[0] = 0x2003, image[512] = 0x3003, image[1024] = 0x400083, image[1025] = 0x4003, image[1536] = 0x600003;
+    image[2048] = BASE | 3; /* at 57 bits the root, above case L's */
     if (!all_right())
         return say("a wrong answer\n");
     if (system_call(SYS_sigaltstack, (long)&stack, 0, 0, 0) != 0 || system_call(SYS_rt_sigaction, SIGTRAP, (long)&action, 0, 8) != 0)

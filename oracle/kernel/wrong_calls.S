@@ -15,7 +15,7 @@ wuohtan_virt_addr_new:
 wuohtan_page_table_level_table_address_space_alignment:
     pxor %xmm0, %xmm0
     movabs $0x1000000000000, %rax
-    mov %rax, (%rsi)
+    mov %rax, (%rdx)
     xor %eax, %eax
     ret
 

@@ -17,27 +17,17 @@ pub(crate) struct Question<'a> {
 
 // How many arguments the operation has.
 pub(crate) fn arguments(operation: u64) -> usize
-    ensures { result ≤ 5 }
+    ensures { result ≤ 6 }
 {
     match operation {
         0x13 | 0x23 => 0,
-        0x10
-        | 0x11
-        | 0x12
-        | 0x14
-        | 0x15
-        | 0x20
-        | 0x21
-        | 0x22
-        | 0x24
-        | 0x25
-        | 0x30..=0x32
-        | 0x38..=0x3f
-        | 0x40..=0x44 => 1,
-        0x57 | 0x58 | 0x68 | 0x6a | 0x6c | 0x6d | 0x6f | 0x70 => 3,
-        0x59 | 0x69 | 0x6e | 0x71 => 4,
-        0x85 | 0x87 | 0x95 | 0x97 | 0xa5 | 0xa7 | 0xb5 | 0xb7 => 5,
-        0x80..=0xbf => 4,
+        0x20 | 0x21 | 0x22 | 0x24 | 0x25 | 0x30..=0x32 | 0x38..=0x3a => 1,
+        0x16..=0x1f | 0x45 | 0x57 | 0x58 | 0x60..=0x67 => 3,
+        0x59 | 0x68 | 0x6b | 0x6c | 0x6d | 0x6f | 0x70 => 4,
+        0x6a | 0x6e | 0x71 => 5,
+        0x69 | 0x85 | 0x87 | 0x95 | 0x97 => 6,
+        0x80..=0x97 | 0xa5 | 0xa7 | 0xb5 | 0xb7 => 5,
+        0xa0..=0xbf => 4,
         _ => 2,
     }
 }
@@ -80,22 +70,27 @@ impl Question<'_> {
 
     fn ask_virt_addr(self, out: &mut [u64]) -> u8 {
         match (self.operation, self.arguments) {
-            (0x10, &[a]) => virt_addr::wuohtan_virt_addr_new(a, out),
-            (0x11, &[a]) => virt_addr::wuohtan_virt_addr_try_new(a, out),
-            (0x12, &[a]) => virt_addr::wuohtan_virt_addr_new_truncate(a, out),
+            (0x10, &[w, a]) => virt_addr::wuohtan_virt_addr_new(w, a, out),
+            (0x11, &[w, a]) => virt_addr::wuohtan_virt_addr_try_new(w, a, out),
+            (0x12, &[w, a]) => virt_addr::wuohtan_virt_addr_new_truncate(w, a, out),
             (0x13, &[]) => virt_addr::wuohtan_virt_addr_zero(out),
-            (0x14, &[a]) => virt_addr::wuohtan_virt_addr_as_u64(a, out),
-            (0x15, &[a]) => virt_addr::wuohtan_virt_addr_is_null(a, out),
-            (0x16, &[a, b]) => virt_addr::wuohtan_virt_addr_align_up(a, b, out),
-            (0x17, &[a, b]) => virt_addr::wuohtan_virt_addr_align_down(a, b, out),
-            (0x18, &[a, b]) => virt_addr::wuohtan_virt_addr_is_aligned(a, b, out),
-            (0x19, &[a, b]) => virt_addr::wuohtan_virt_addr_add(a, b, out),
-            (0x1a, &[a, b]) => virt_addr::wuohtan_virt_addr_sub(a, b, out),
-            (0x1b, &[a, b]) => virt_addr::wuohtan_virt_addr_sub_addr(a, b, out),
-            (0x1c, &[a, b]) => virt_addr::wuohtan_virt_addr_forward_checked_u64(a, b, out),
-            (0x1d, &[a, b]) => virt_addr::wuohtan_virt_addr_backward_checked_u64(a, b, out),
-            (0x1e, &[a, b]) => virt_addr::wuohtan_virt_addr_steps_between_u64(a, b, out),
-            (0x1f, &[a, b]) => virt_addr::wuohtan_virt_addr_add_signed(a, displacement(b), out),
+            (0x14, &[w, a]) => virt_addr::wuohtan_virt_addr_as_u64(w, a, out),
+            (0x15, &[w, a]) => virt_addr::wuohtan_virt_addr_is_null(w, a, out),
+            (0x16, &[w, a, b]) => virt_addr::wuohtan_virt_addr_align_up(w, a, b, out),
+            (0x17, &[w, a, b]) => virt_addr::wuohtan_virt_addr_align_down(w, a, b, out),
+            (0x18, &[w, a, b]) => virt_addr::wuohtan_virt_addr_is_aligned(w, a, b, out),
+            (0x19, &[w, a, b]) => virt_addr::wuohtan_virt_addr_add(w, a, b, out),
+            (0x1a, &[w, a, b]) => virt_addr::wuohtan_virt_addr_sub(w, a, b, out),
+            (0x1b, &[w, a, b]) => virt_addr::wuohtan_virt_addr_sub_addr(w, a, b, out),
+            (0x1c, &[w, a, b]) => virt_addr::wuohtan_virt_addr_forward_checked_u64(w, a, b, out),
+            (0x1d, &[w, a, b]) => virt_addr::wuohtan_virt_addr_backward_checked_u64(w, a, b, out),
+            (0x1e, &[w, a, b]) => virt_addr::wuohtan_virt_addr_steps_between_u64(w, a, b, out),
+            (0x1f, &[w, a, b]) => virt_addr::wuohtan_virt_addr_add_signed(
+                w,
+                a,
+                displacement(b),
+                out,
+            ),
             _ => UNKNOWN,
         }
     }
@@ -129,22 +124,26 @@ impl Question<'_> {
             (0x38, &[a]) => tables::wuohtan_page_offset_new(a, out),
             (0x39, &[a]) => tables::wuohtan_page_offset_new_truncate(a, out),
             (0x3a, &[a]) => tables::wuohtan_page_offset_into_u64(a, out),
-            (0x3c, &[a]) => tables::wuohtan_page_table_level_next_lower_level(a, out),
-            (0x3d, &[a]) => tables::wuohtan_page_table_level_next_higher_level(a, out),
-            (0x3e, &[a]) => tables::wuohtan_page_table_level_table_address_space_alignment(a, out),
-            (0x3f, &[a]) => tables::wuohtan_page_table_level_entry_address_space_alignment(a, out),
+            (0x3c, &[w, a]) => tables::wuohtan_page_table_level_next_lower_level(w, a, out),
+            (0x3d, &[w, a]) => tables::wuohtan_page_table_level_next_higher_level(w, a, out),
+            (0x3e, &[w, a]) => tables::wuohtan_page_table_level_table_address_space_alignment(
+                w, a, out,
+            ),
+            (0x3f, &[w, a]) => tables::wuohtan_page_table_level_entry_address_space_alignment(
+                w, a, out,
+            ),
             _ => UNKNOWN,
         }
     }
 
     fn ask_virt_addr_index(self, out: &mut [u64]) -> u8 {
         match (self.operation, self.arguments) {
-            (0x40, &[a]) => virt_addr::wuohtan_virt_addr_page_offset(a, out),
-            (0x41, &[a]) => virt_addr::wuohtan_virt_addr_p1_index(a, out),
-            (0x42, &[a]) => virt_addr::wuohtan_virt_addr_p2_index(a, out),
-            (0x43, &[a]) => virt_addr::wuohtan_virt_addr_p3_index(a, out),
-            (0x44, &[a]) => virt_addr::wuohtan_virt_addr_p4_index(a, out),
-            (0x45, &[a, b]) => virt_addr::wuohtan_virt_addr_page_table_index(a, b, out),
+            (0x40, &[w, a]) => virt_addr::wuohtan_virt_addr_page_offset(w, a, out),
+            (0x41, &[w, a]) => virt_addr::wuohtan_virt_addr_p1_index(w, a, out),
+            (0x42, &[w, a]) => virt_addr::wuohtan_virt_addr_p2_index(w, a, out),
+            (0x43, &[w, a]) => virt_addr::wuohtan_virt_addr_p3_index(w, a, out),
+            (0x44, &[w, a]) => virt_addr::wuohtan_virt_addr_p4_index(w, a, out),
+            (0x45, &[w, a, b]) => virt_addr::wuohtan_virt_addr_page_table_index(w, a, b, out),
             _ => UNKNOWN,
         }
     }
@@ -167,42 +166,54 @@ impl Question<'_> {
 
     fn ask_page(self, out: &mut [u64]) -> u8 {
         match (self.operation, self.arguments) {
-            (0x60, &[a, b]) => pages::wuohtan_page_from_start_address(a, b, out),
-            (0x61, &[a, b]) => pages::wuohtan_page_containing_address(a, b, out),
-            (0x62, &[a, b]) => pages::wuohtan_page_start_address(a, b, out),
-            (0x63, &[a, b]) => pages::wuohtan_page_size(a, b, out),
-            (0x64, &[a, b]) => pages::wuohtan_page_p1_index(a, b, out),
-            (0x65, &[a, b]) => pages::wuohtan_page_p2_index(a, b, out),
-            (0x66, &[a, b]) => pages::wuohtan_page_p3_index(a, b, out),
-            (0x67, &[a, b]) => pages::wuohtan_page_p4_index(a, b, out),
-            (0x68, &[a, b, c]) => pages::wuohtan_page_page_table_index(a, b, c, out),
-            (0x69, &[a, b, c, d]) => pages::wuohtan_page_from_page_table_indices(a, b, c, d, out),
-            (0x6a, &[a, b, c]) => pages::wuohtan_page_from_page_table_indices_2mib(a, b, c, out),
-            (0x6b, &[a, b]) => pages::wuohtan_page_from_page_table_indices_1gib(a, b, out),
-            (0x6c, &[a, b, c]) => pages::wuohtan_page_add(a, b, c, out),
-            (0x6d, &[a, b, c]) => pages::wuohtan_page_sub(a, b, c, out),
-            (0x6e, &[a, b, c, d]) => pages::wuohtan_page_sub_page(a, b, c, d, out),
-            (0x6f, &[a, b, c]) => pages::wuohtan_page_forward_checked(a, b, c, out),
-            (0x70, &[a, b, c]) => pages::wuohtan_page_backward_checked(a, b, c, out),
-            (0x71, &[a, b, c, d]) => pages::wuohtan_page_steps_between_u64(a, b, c, d, out),
+            (0x60, &[w, a, b]) => pages::wuohtan_page_from_start_address(w, a, b, out),
+            (0x61, &[w, a, b]) => pages::wuohtan_page_containing_address(w, a, b, out),
+            (0x62, &[w, a, b]) => pages::wuohtan_page_start_address(w, a, b, out),
+            (0x63, &[w, a, b]) => pages::wuohtan_page_size(w, a, b, out),
+            (0x64, &[w, a, b]) => pages::wuohtan_page_p1_index(w, a, b, out),
+            (0x65, &[w, a, b]) => pages::wuohtan_page_p2_index(w, a, b, out),
+            (0x66, &[w, a, b]) => pages::wuohtan_page_p3_index(w, a, b, out),
+            (0x67, &[w, a, b]) => pages::wuohtan_page_p4_index(w, a, b, out),
+            (0x68, &[w, a, b, c]) => pages::wuohtan_page_page_table_index(w, a, b, c, out),
+            (0x69, &[w, a, b, c, d, e]) => pages::wuohtan_page_from_page_table_indices(
+                w, a, b, c, d, e, out,
+            ),
+            (0x6a, &[w, a, b, c, d]) => pages::wuohtan_page_from_page_table_indices_2mib(
+                w, a, b, c, d, out,
+            ),
+            (0x6b, &[w, a, b, c]) => pages::wuohtan_page_from_page_table_indices_1gib(
+                w, a, b, c, out,
+            ),
+            (0x6c, &[w, a, b, c]) => pages::wuohtan_page_add(w, a, b, c, out),
+            (0x6d, &[w, a, b, c]) => pages::wuohtan_page_sub(w, a, b, c, out),
+            (0x6e, &[w, a, b, c, d]) => pages::wuohtan_page_sub_page(w, a, b, c, d, out),
+            (0x6f, &[w, a, b, c]) => pages::wuohtan_page_forward_checked(w, a, b, c, out),
+            (0x70, &[w, a, b, c]) => pages::wuohtan_page_backward_checked(w, a, b, c, out),
+            (0x71, &[w, a, b, c, d]) => pages::wuohtan_page_steps_between_u64(w, a, b, c, d, out),
             _ => UNKNOWN,
         }
     }
 
     fn ask_page_range(self, out: &mut [u64]) -> u8 {
         match (self.operation, self.arguments) {
-            (0x80, &[a, b, c, d]) => page_ranges::wuohtan_page_range_new(a, b, c, d, out),
-            (0x81, &[a, b, c, d]) => page_ranges::wuohtan_page_range_is_empty(a, b, c, d, out),
-            (0x82, &[a, b, c, d]) => page_ranges::wuohtan_page_range_len(a, b, c, d, out),
-            (0x83, &[a, b, c, d]) => page_ranges::wuohtan_page_range_size(a, b, c, d, out),
-            (0x84, &[a, b, c, d]) => page_ranges::wuohtan_page_range_next(a, b, c, d, out),
-            (0x85, &[a, b, c, d, n]) => page_ranges::wuohtan_page_range_nth(a, b, c, d, n, out),
-            (0x86, &[a, b, c, d]) => page_ranges::wuohtan_page_range_next_back(a, b, c, d, out),
-            (0x87, &[a, b, c, d, n]) => page_ranges::wuohtan_page_range_nth_back(
-                a, b, c, d, n, out,
+            (0x80, &[w, a, b, c, d]) => page_ranges::wuohtan_page_range_new(w, a, b, c, d, out),
+            (0x81, &[w, a, b, c, d]) => page_ranges::wuohtan_page_range_is_empty(
+                w, a, b, c, d, out,
             ),
-            (0x88, &[a, b, c, d]) => page_ranges::wuohtan_page_range_as_4kib_page_range(
-                a, b, c, d, out,
+            (0x82, &[w, a, b, c, d]) => page_ranges::wuohtan_page_range_len(w, a, b, c, d, out),
+            (0x83, &[w, a, b, c, d]) => page_ranges::wuohtan_page_range_size(w, a, b, c, d, out),
+            (0x84, &[w, a, b, c, d]) => page_ranges::wuohtan_page_range_next(w, a, b, c, d, out),
+            (0x85, &[w, a, b, c, d, n]) => page_ranges::wuohtan_page_range_nth(
+                w, a, b, c, d, n, out,
+            ),
+            (0x86, &[w, a, b, c, d]) => page_ranges::wuohtan_page_range_next_back(
+                w, a, b, c, d, out,
+            ),
+            (0x87, &[w, a, b, c, d, n]) => page_ranges::wuohtan_page_range_nth_back(
+                w, a, b, c, d, n, out,
+            ),
+            (0x88, &[w, a, b, c, d]) => page_ranges::wuohtan_page_range_as_4kib_page_range(
+                w, a, b, c, d, out,
             ),
             _ => UNKNOWN,
         }
@@ -210,25 +221,29 @@ impl Question<'_> {
 
     fn ask_page_range_inclusive(self, out: &mut [u64]) -> u8 {
         match (self.operation, self.arguments) {
-            (0x90, &[a, b, c, d]) => page_ranges::wuohtan_page_range_inclusive_new(a, b, c, d, out),
-            (0x91, &[a, b, c, d]) => page_ranges::wuohtan_page_range_inclusive_is_empty(
-                a, b, c, d, out,
+            (0x90, &[w, a, b, c, d]) => page_ranges::wuohtan_page_range_inclusive_new(
+                w, a, b, c, d, out,
             ),
-            (0x92, &[a, b, c, d]) => page_ranges::wuohtan_page_range_inclusive_len(a, b, c, d, out),
-            (0x93, &[a, b, c, d]) => page_ranges::wuohtan_page_range_inclusive_size(
-                a, b, c, d, out,
+            (0x91, &[w, a, b, c, d]) => page_ranges::wuohtan_page_range_inclusive_is_empty(
+                w, a, b, c, d, out,
             ),
-            (0x94, &[a, b, c, d]) => page_ranges::wuohtan_page_range_inclusive_next(
-                a, b, c, d, out,
+            (0x92, &[w, a, b, c, d]) => page_ranges::wuohtan_page_range_inclusive_len(
+                w, a, b, c, d, out,
             ),
-            (0x95, &[a, b, c, d, n]) => page_ranges::wuohtan_page_range_inclusive_nth(
-                a, b, c, d, n, out,
+            (0x93, &[w, a, b, c, d]) => page_ranges::wuohtan_page_range_inclusive_size(
+                w, a, b, c, d, out,
             ),
-            (0x96, &[a, b, c, d]) => page_ranges::wuohtan_page_range_inclusive_next_back(
-                a, b, c, d, out,
+            (0x94, &[w, a, b, c, d]) => page_ranges::wuohtan_page_range_inclusive_next(
+                w, a, b, c, d, out,
             ),
-            (0x97, &[a, b, c, d, n]) => page_ranges::wuohtan_page_range_inclusive_nth_back(
-                a, b, c, d, n, out,
+            (0x95, &[w, a, b, c, d, n]) => page_ranges::wuohtan_page_range_inclusive_nth(
+                w, a, b, c, d, n, out,
+            ),
+            (0x96, &[w, a, b, c, d]) => page_ranges::wuohtan_page_range_inclusive_next_back(
+                w, a, b, c, d, out,
+            ),
+            (0x97, &[w, a, b, c, d, n]) => page_ranges::wuohtan_page_range_inclusive_nth_back(
+                w, a, b, c, d, n, out,
             ),
             _ => UNKNOWN,
         }

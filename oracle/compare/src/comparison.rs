@@ -6,6 +6,7 @@ use crate::answer::Answer;
 use crate::cases::{self, Case};
 use crate::counts::Counts;
 use crate::inputs;
+use crate::kind;
 use crate::operation::Operation;
 use crate::port;
 use crate::rust::Asked;
@@ -49,6 +50,7 @@ pub fn compare(operation: &Operation, seed: u64, draws: u64) -> Result<Counts, D
 fn compare_one(operation: &Operation, args: &[u64], counts: &mut Counts) -> Result<(), Difference> {
     let (answer, rust) = ask_all(operation, args, None)?;
     counts.count(answer.status);
+    counts.at_57 += u64::from(kind::width(operation.kinds, args) == Some(57));
     counts.without_rust += u64::from(rust.is_none());
     counts.otherwise += u64::from(rust.is_some_and(|rust| rust != answer));
     Ok(())

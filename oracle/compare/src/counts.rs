@@ -9,6 +9,8 @@ pub const NAME: usize = 48;
 pub struct Counts {
     pub boundary: u64,
     pub drawn: u64,
+    /// Asked at 57 bits.
+    pub at_57: u64,
     /// Compared with the model alone, since the Rust has no way to say the question.
     pub without_rust: u64,
     /// The Rust answers otherwise, as it must where document 02 has changed the answer.
@@ -21,6 +23,7 @@ impl Counts {
         Counts {
             boundary: 0,
             drawn: 0,
+            at_57: 0,
             without_rust: 0,
             otherwise: 0,
             by_status: [0; 256],
@@ -34,6 +37,7 @@ impl Counts {
     fn add(&mut self, other: &Counts) {
         self.boundary += other.boundary;
         self.drawn += other.drawn;
+        self.at_57 += other.at_57;
         self.without_rust += other.without_rust;
         self.otherwise += other.otherwise;
         for (sum, more) in self.by_status.iter_mut().zip(other.by_status) {
@@ -56,6 +60,7 @@ pub fn print_table(rows: &[(&str, Counts)]) {
     for title in [
         "boundary",
         "drawn",
+        "57 bits",
         "no Rust",
         "otherwise",
         "answered",
@@ -82,6 +87,7 @@ fn print_row(name: &str, counts: &Counts, refusals: &[u8]) {
     for count in [
         counts.boundary,
         counts.drawn,
+        counts.at_57,
         counts.without_rust,
         counts.otherwise,
     ] {

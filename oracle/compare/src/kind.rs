@@ -3,6 +3,8 @@
 
 #[derive(Clone, Copy, Debug, PartialEq, Eq)]
 pub enum Kind {
+    /// The width of virtual addresses, 48 or 57. A question has it first, if its answer depends on it.
+    Width,
     /// Any 64-bit number.
     Number,
     /// Any 64-bit number, tried around those at which indices and offsets end.
@@ -22,9 +24,11 @@ pub enum Kind {
     Items,
     /// An index into a page table.
     Index,
+    /// An index into a table of level 5, which 48 bits do not have.
+    Index5,
     /// An offset in a 4 KiB page.
     Offset,
-    /// A level, 1 to 4.
+    /// A level, 1 to 4 at 48 bits and 1 to 5 at 57.
     Level,
     /// A virtual address and a page size.
     VirtualAndSize,
@@ -48,7 +52,8 @@ impl Kind {
     /// How many numbers say an argument of this kind.
     pub const fn words(self) -> usize {
         match self {
-            Kind::Number
+            Kind::Width
+            | Kind::Number
             | Kind::Small
             | Kind::Virtual
             | Kind::Physical
@@ -57,6 +62,7 @@ impl Kind {
             | Kind::Displacement
             | Kind::Items
             | Kind::Index
+            | Kind::Index5
             | Kind::Offset
             | Kind::Level
             | Kind::Draws => 1,
@@ -117,6 +123,11 @@ impl Choices {
     pub fn sizes(&self) -> impl Iterator<Item = u64> {
         self.size.into_iter().chain(self.end_size)
     }
+}
+
+/// The width of the question, if its answer depends on one.
+pub fn width(kinds: &[Kind], numbers: &[u64]) -> Option<u64> {
+    (kinds.first() == Some(&Kind::Width)).then(|| numbers[0])
 }
 
 /// Each argument with its numbers.

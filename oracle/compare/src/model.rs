@@ -1,5 +1,6 @@
 //! What the documents say, in plain arithmetic on unbounded numbers (u128 is wide enough). Written
-//! from the document, not from the Rust or the port, and with none of their bit operations.
+//! from the document, not from the Rust or the port, and with none of their bit operations. What
+//! depends on the width of virtual addresses takes it first, as a number.
 
 pub mod frames;
 pub mod numbers;
@@ -15,52 +16,50 @@ use crate::answer::{
 use crate::kind::{self, Kind};
 
 /// 2 to the power of n.
-pub const fn power(n: u32) -> u128 {
+pub const fn power(n: u128) -> u128 {
     1 << n
 }
 
-/// Level and page size are closed choices, tried before all else. Then an argument that is no
+/// Width, level and page size are closed choices, tried before all else. Then an argument that is no
 /// address, page, frame or index is refused, in argument order.
 pub fn refused_argument(kinds: &[Kind], args: &[u64]) -> Option<u8> {
-    if kind::split(kinds, args).any(|(kind, words)| outside_choice(kind, words)) {
+    let width = kind::width(kinds, args).map(u128::from);
+    if kind::split(kinds, args).any(|(kind, words)| outside_choice(width, kind, words)) {
         return Some(NO_SUCH_CHOICE);
     }
-    kind::split(kinds, args).find_map(|(kind, words)| refused(kind, words))
+    kind::split(kinds, args).find_map(|(kind, words)| refused(width, kind, words))
 }
 
-fn outside_choice(kind: Kind, words: &[u64]) -> bool {
+fn outside_choice(width: Option<u128>, kind: Kind, words: &[u64]) -> bool {
+    let levels = width.and_then(page_table::levels);
     let choices = kind.choices(words);
-    let no_level = choices
-        .level
-        .is_some_and(|level| ![1, 2, 3, 4].contains(&level));
+    let no_width = kind == Kind::Width && levels.is_none();
+    let no_level = |level: u64| !(1..=levels.unwrap_or(0)).contains(&level.into());
     let no_size = |size: u64| ![power(12), power(21), power(30)].contains(&size.into());
-    no_level || choices.sizes().any(no_size)
+    no_width || choices.level.is_some_and(no_level) || choices.sizes().any(no_size)
 }
 
-fn refused(kind: Kind, words: &[u64]) -> Option<u8> {
-    // A range is tested by its start, by its end, and by whether their sizes are one.
-    if let (Some(item), &[_, size, _, end_size]) = (kind.item(), words) {
-        let refused_end = || refused(item, &words[2..]);
-        let differ = || (size != end_size).then_some(SIZES_DIFFER);
-        return refused(item, &words[..2])
-            .or_else(refused_end)
-            .or_else(differ);
+fn refused(width: Option<u128>, kind: Kind, words: &[u64]) -> Option<u8> {
+    if let Some(item) = kind.item() {
+        return refused_range(width, item, words);
     }
     let number = u128::from(words[0]);
+    let canonical = || virt_addr::canonical(width.expect("a virtual address has a width"), number);
     let tests: &[(bool, u8)] = match kind {
-        Kind::Virtual | Kind::VirtualAndSize => &[(virt_addr::canonical(number), NOT_CANONICAL)],
+        Kind::Virtual | Kind::VirtualAndSize => &[(canonical(), NOT_CANONICAL)],
         Kind::Physical | Kind::PhysicalAndSize => &[(phys_addr::physical(number), NOT_PHYSICAL)],
-        Kind::Index => &[(page_table::index(number), INDEX_TOO_LARGE)],
+        Kind::Index | Kind::Index5 => &[(page_table::index(number), INDEX_TOO_LARGE)],
         Kind::Offset => &[(page_table::offset(number), INDEX_TOO_LARGE)],
         Kind::Page => &[
-            (virt_addr::canonical(number), NOT_CANONICAL),
+            (canonical(), NOT_CANONICAL),
             (multiple_of_size(words), NOT_ALIGNED),
         ],
         Kind::Frame => &[
             (phys_addr::physical(number), NOT_PHYSICAL),
             (multiple_of_size(words), NOT_ALIGNED),
         ],
-        Kind::Number
+        Kind::Width
+        | Kind::Number
         | Kind::Small
         | Kind::Alignment
         | Kind::Count
@@ -74,6 +73,16 @@ fn refused(kind: Kind, words: &[u64]) -> Option<u8> {
     };
     let mut tests = tests.iter();
     tests.find_map(|&(holds, refusal)| (!holds).then_some(refusal))
+}
+
+/// A range is tested by its start, by its end, and by whether their sizes are one.
+fn refused_range(width: Option<u128>, item: Kind, words: &[u64]) -> Option<u8> {
+    let (start, end) = words.split_at(2);
+    let refused_end = || refused(width, item, end);
+    let differ = || (start[1] != end[1]).then_some(SIZES_DIFFER);
+    refused(width, item, start)
+        .or_else(refused_end)
+        .or_else(differ)
 }
 
 /// Whether a start is a multiple of its size.

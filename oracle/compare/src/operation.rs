@@ -26,7 +26,7 @@ pub struct Operation {
 
 pub type Model = fn(&[u64]) -> Answer;
 
-/// Document 01 alone where document 02 has changed answers, and so the Rust.
+/// Document 01 alone where document 02 has changed answers, and so the Rust: at 48 bits.
 pub struct Before {
     /// Whether these are an answer of before, the second, and today's, the third, of arguments that no call
     /// refuses.
@@ -46,7 +46,7 @@ const GAP: u64 = ((1 << 64) - (1u128 << 48)) as u64;
 
 /// Before request Three `len` counted the pages too for which the gap has room.
 pub fn pages_of_gap_were_counted(args: &[u64], before: Answer, today: Answer) -> bool {
-    before == with_gap(args, today, GAP / args[1])
+    before == with_gap(args, today, GAP / args[2])
 }
 
 /// Before request Three `size` counted the gap too, and refused 2^64.
@@ -65,9 +65,9 @@ fn with_gap(args: &[u64], answer: Answer, more: u64) -> Answer {
     }
 }
 
-/// Of a range of pages, whether start and end are low.
+/// Of a range of pages behind its width, whether start and end are low.
 fn ends_are_low(args: &[u64]) -> [bool; 2] {
-    [args[0], args[2]].map(|address| address < 1 << 47)
+    [args[1], args[3]].map(|address| address < 1 << 47)
 }
 
 impl Operation {
@@ -87,11 +87,15 @@ impl Operation {
         }
     }
 
-    /// What the Rust is to answer: as the model, but where document 02 has changed that.
+    /// What the Rust is to answer: as the model, but where document 02 has changed that. At 57 bits it is
+    /// not asked.
     pub fn ask_before(&self, args: &[u64]) -> Answer {
         let model = self.ask_model(args);
+        let is_asked = || {
+            rust::can_say(self.kinds, args) && model::refused_argument(self.kinds, args).is_none()
+        };
         match &self.before {
-            Some(before) if model::refused_argument(self.kinds, args).is_none() => {
+            Some(before) if is_asked() => {
                 let answer = (before.model)(args);
                 assert!(
                     (before.agrees)(args, answer, model),
@@ -106,9 +110,10 @@ impl Operation {
 }
 
 /// A row. Each argument has a name for each of its numbers, and its kind. The ways of the Rust take
-/// the arguments in their own types, made by the Rust's own constructors; the model takes the plain
-/// numbers. `sizes` names the number that chooses the type `S` in the ways, and the sizes at which
-/// the Rust has them. `before` names what document 02 has changed, and the model of document 01 alone.
+/// the arguments in their own types, made by the Rust's own constructors, but neither a width nor an
+/// index of level 5; the model takes the plain numbers. `sizes` names the number that chooses the type
+/// `S` in the ways, and the sizes at which the Rust has them. `before` names what document 02 has
+/// changed, and the model of document 01 alone.
 #[macro_export]
 macro_rules! operation {
     (
@@ -157,14 +162,23 @@ macro_rules! function {
 #[macro_export]
 macro_rules! port {
     // C takes a displacement as an int32_t.
-    ($port:ident, ($addr:ident: $kind:ident, $displacement:ident: Displacement)) => {{
+    (
+        $port:ident,
+        ($width:ident: Width, $addr:ident: Virtual, $displacement:ident: Displacement)
+    ) => {{
         extern "C" {
-            fn $port($addr: u64, $displacement: i32, out: *mut u64, len: usize) -> u8;
+            fn $port($width: u64, $addr: u64, $displacement: i32, out: *mut u64, len: usize) -> u8;
         }
-        unsafe extern "C" fn port($addr: u64, $displacement: u64, out: *mut u64, len: usize) -> u8 {
-            $port($addr, $displacement as i32, out, len)
+        unsafe extern "C" fn port(
+            $width: u64,
+            $addr: u64,
+            $displacement: u64,
+            out: *mut u64,
+            len: usize,
+        ) -> u8 {
+            $port($width, $addr, $displacement as i32, out, len)
         }
-        $crate::function!(port, ($addr: $kind, $displacement: Displacement))
+        $crate::function!(port, ($width: Width, $addr: Virtual, $displacement: Displacement))
     }};
     ($port:ident, ($($($word:ident)+: $kind:ident),*)) => {{
         extern "C" {
@@ -214,6 +228,15 @@ macro_rules! at_size {
 /// One way, its arguments made in their order.
 #[macro_export]
 macro_rules! asked {
+    // The Rust has one width and no level 5.
+    ($by:ident $out:tt, $way:expr, ($width:ident: Width, $($rest:tt)+)) => {{
+        let _ = $width;
+        $crate::asked!($by $out, $way, ($($rest)+))
+    }};
+    ($by:ident $out:tt, $way:expr, ($index:ident: Index5, $($rest:tt)+)) => {{
+        let _ = $index;
+        $crate::asked!($by $out, $way, ($($rest)+))
+    }};
     ($by:ident($($out:ident)?), $way:expr, ($($first:ident $($more:ident)*: $kind:ident),*)) => {{
         let asked = || {
             $(let $first = $crate::rust::Argument::made([$first $(, $more)*])?;)*

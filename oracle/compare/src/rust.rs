@@ -7,7 +7,7 @@ pub mod ranges;
 pub mod unasked;
 
 pub use answers::Answers;
-pub use argument::Argument;
+pub use argument::{can_say, Argument};
 pub use panics::{refusal, refusal_of_draw, refusal_of_new, silence_caught_panics, Panic};
 pub use ranges::drawn;
 pub use unasked::Unasked;
@@ -27,10 +27,10 @@ pub struct Asked {
     pub trouble: Option<String>,
 }
 
-/// Asks every way. What the constructor of an argument refuses is the answer; a level or a size
-/// that there is not can't be said, whatever else is refused.
+/// Asks every way. What the constructor of an argument refuses is the answer; a width, a level or a
+/// size that there is not can't be said, whatever else is refused.
 pub fn ask(kinds: &[Kind], ways: &[Way], refusal: fn(Panic) -> u8, args: &[u64]) -> Asked {
-    if !argument::has_choices(kinds, args) {
+    if !can_say(kinds, args) {
         return Asked {
             answer: None,
             panicked: false,

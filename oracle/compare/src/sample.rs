@@ -8,7 +8,8 @@ use crate::answer::{
 };
 use crate::cases;
 use crate::inputs;
-use crate::kind;
+use crate::inputs::widths::{low_end, WIDTHS};
+use crate::kind::{self, Kind};
 use crate::operation::Operation;
 use generator::Generator;
 
@@ -17,24 +18,27 @@ const SEED: u64 = 1;
 const DRAWS: u64 = 20_000;
 
 /// Questions with the oracle's answers: the cases of the documents, the ends of indices and offsets,
-/// and a choice in which each kind of answer has about the same share, from boundaries and drawn
-/// ones.
+/// and a choice in which each kind of answer has about the same share at each width, from boundaries
+/// and drawn ones.
 pub fn of(operation: &Operation) -> BTreeMap<Vec<u64>, Answer> {
     let mut chosen: BTreeMap<_, _> = cases::of(operation)
         .map(|case| case.args.to_vec())
         .chain(inputs::edges(operation))
         .map(|args| (args.clone(), oracle(operation, &args)))
         .collect();
-    let mut pools = pools(operation);
-    let size = size(operation);
-    while chosen.len() < size && !pools.is_empty() {
-        pools.retain_mut(|pool| match pool.pop() {
-            Some((args, answer)) if chosen.len() < size => {
-                chosen.insert(args, answer);
-                true
-            }
-            _ => false,
-        });
+    for (at, mut pools) in pools(operation) {
+        let size = size(operation, at);
+        let is_at = |args: &&Vec<u64>| width(operation, args) == at;
+        let mut count = chosen.keys().filter(is_at).count();
+        while count < size && !pools.is_empty() {
+            pools.retain_mut(|pool| match pool.pop() {
+                Some((args, answer)) if count < size => {
+                    count += usize::from(chosen.insert(args, answer).is_none());
+                    true
+                }
+                _ => false,
+            });
+        }
     }
     chosen
 }
@@ -46,25 +50,31 @@ fn of_ranges(operation: &Operation) -> bool {
     operation.kinds.iter().any(|kind| kind.item().is_some())
 }
 
-/// How many questions are wanted, by the number of arguments.
-fn size(operation: &Operation) -> usize {
-    if of_ranges(operation) {
-        return 40;
-    }
-    match (operation.words(), operation.number < BEHIND_ADDRESSES) {
+/// How many questions are wanted at this width, by the number of the other arguments; at numbers that
+/// are none fewer.
+fn size(operation: &Operation, width: Option<u64>) -> usize {
+    let has_width = operation.kinds.first() == Some(&Kind::Width);
+    let words = operation.words() - usize::from(has_width);
+    let size = match (words, operation.number < BEHIND_ADDRESSES) {
+        _ if of_ranges(operation) => 40,
         (0, _) => 1,
         (1, true) => 80,
         (_, true) => 250,
         (1, false) => 30,
         (_, false) => 60,
+    };
+    match width {
+        None if has_width => size / 8,
+        _ => size,
     }
 }
 
 type Pool = Vec<(Vec<u64>, Answer)>;
 
-/// All questions that are chosen from, those on boundaries apart from drawn ones, each kind of
-/// answer apart from the others and each page size or level as well, every pool in a drawn order.
-fn pools(operation: &Operation) -> Vec<Pool> {
+/// All questions that are chosen from, by their width: those on boundaries apart from drawn ones, each
+/// kind of answer apart from the others and each page size or level as well, every pool in a drawn
+/// order.
+fn pools(operation: &Operation) -> BTreeMap<Option<u64>, Vec<Pool>> {
     let mut boundary = BTreeSet::new();
     let mut drawn = BTreeSet::new();
     let gather = |into: &mut BTreeSet<Vec<u64>>, args: &[u64]| {
@@ -75,25 +85,33 @@ fn pools(operation: &Operation) -> Vec<Pool> {
     let _ = inputs::each_drawn(operation, SEED, DRAWS, |args| gather(&mut drawn, args));
 
     let mut generator = Generator::new(SEED);
-    let mut pools = Vec::new();
+    let mut pools: BTreeMap<_, Vec<Pool>> = BTreeMap::new();
     for questions in [boundary, drawn] {
         let mut by_kind: BTreeMap<_, Pool> = BTreeMap::new();
         for args in questions {
             let answer = oracle(operation, &args);
-            let key = (kind_of(&answer), choice(operation, &args, &answer));
+            let width = width(operation, &args);
+            let choice = choice(operation, &args, &answer);
+            let key = (width, kind_of(width, &answer), choice);
             by_kind.entry(key).or_default().push((args, answer));
         }
-        for mut pool in by_kind.into_values() {
+        for ((width, ..), mut pool) in by_kind {
             generator.shuffle(&mut pool);
-            pools.push(pool);
+            pools.entry(width).or_default().push(pool);
         }
     }
     pools
 }
 
+/// The width of the question, if it has one. Numbers that are none are all of one kind.
+fn width(operation: &Operation, args: &[u64]) -> Option<u64> {
+    let width = kind::width(operation.kinds, args);
+    width.filter(|width| WIDTHS.contains(width))
+}
+
 /// The status, and of an answer whether its first word is 0, 1, low or high; of a draw with an item
 /// whether the range left starts or ends on it.
-fn kind_of(answer: &Answer) -> (u8, u8) {
+fn kind_of(width: Option<u64>, answer: &Answer) -> (u8, u8) {
     if let &[1, item, start, end] = answer.as_words() {
         let place = 2 * u8::from(start == item) + u8::from(end == item);
         return (answer.status, 4 + place);
@@ -101,7 +119,7 @@ fn kind_of(answer: &Answer) -> (u8, u8) {
     let word = match answer.as_words().first() {
         None | Some(0) => 0,
         Some(1) => 1,
-        Some(word) if *word < 1 << 47 => 2,
+        Some(word) if *word < low_end(width.unwrap_or(WIDTHS[0])) => 2,
         Some(_) => 3,
     };
     (answer.status, word)

@@ -3,6 +3,7 @@
 
 use crate::image::{Image, PAGE_BYTES, TABLE};
 use crate::reference::span_pages;
+use crate::width::Width;
 
 pub const PRESENT: u64 = 1;
 pub const WRITABLE: u64 = 1 << 1;
@@ -24,11 +25,12 @@ pub struct Draft {
 
 impl Draft {
     /// So many tables from base on. They are taken in this order, the first as the root.
-    pub fn with_order(base: u64, order: &[usize]) -> Draft {
+    pub fn with_order(width: Width, base: u64, order: &[usize]) -> Draft {
         let mut free: Vec<_> = order.iter().rev().copied().collect();
         let root = free.pop().expect("a table for the root");
         Draft {
             image: Image {
+                width,
                 words: vec![0; TABLE * order.len()],
                 base,
                 root: table_address(base, root),
@@ -38,8 +40,8 @@ impl Draft {
     }
 
     /// So many tables from base on, taken in the order of their addresses.
-    pub fn new(base: u64, tables: usize) -> Draft {
-        Draft::with_order(base, &(0..tables).collect::<Vec<_>>())
+    pub fn new(width: Width, base: u64, tables: usize) -> Draft {
+        Draft::with_order(width, base, &(0..tables).collect::<Vec<_>>())
     }
 
     /// The address of a table that was free.
@@ -74,7 +76,7 @@ impl Draft {
     /// `None` if there are no more, or if a large or broken entry is in the way.
     pub fn at(&mut self, page: u64, level: u32) -> Option<&mut u64> {
         let mut table = self.image.root;
-        for upper in (level + 1..=4).rev() {
+        for upper in (level + 1..=self.image.width.levels()).rev() {
             let entry = *self.word(table, index(page, upper))?;
             if entry & PRESENT == 0 {
                 let next = self.take()?;
@@ -94,7 +96,7 @@ impl Draft {
     /// `None` as above.
     pub fn apart(&mut self, page: u64, level: u32) -> Option<&mut u64> {
         let mut table = self.image.root;
-        for upper in (level + 1..=4).rev() {
+        for upper in (level + 1..=self.image.width.levels()).rev() {
             let entry = *self.word(table, index(page, upper))?;
             if entry & (PRESENT | LARGE) == PRESENT | LARGE {
                 return None;
@@ -147,10 +149,11 @@ pub fn index(page: u64, level: u32) -> u64 {
     page / span_pages(level) % TABLE as u64
 }
 
-/// The number of the page with these indices, level 4 first.
-pub fn page(indices: [u64; 4]) -> u64 {
+/// The number of the page with these indices, the highest level first.
+pub fn page(indices: impl IntoIterator<Item = u64>) -> u64 {
     let size = TABLE as u64;
-    indices.iter().fold(0, |sum, index| sum * size + index)
+    let indices = indices.into_iter();
+    indices.fold(0, |sum, index| sum * size + index)
 }
 
 fn table_address(base: u64, table: usize) -> u64 {

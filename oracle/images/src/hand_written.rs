@@ -1,6 +1,7 @@
 //! Translation and lists as one writes them by hand in safe Rust, for the benchmark to measure the
 //! port against. A list is one pass over the tables: absent entries are skipped by their span, runs
-//! grow by whole entries, and a table that held nothing is not read again at that level.
+//! grow by whole entries, and a table that held nothing is not read again at that level. The number
+//! of levels is a constant of each, so that four cost what they did when there were no five.
 
 mod calls;
 mod pass;
@@ -57,12 +58,18 @@ impl<'a> Tables<'a> {
     }
 }
 
-fn is_canonical(address: u64) -> bool {
-    (address as i64) << 16 >> 16 == address as i64
+/// The address that the lower bits of a number stand for, as many as so many levels have.
+const fn sign_extended<const LEVELS: u32>(number: u64) -> u64 {
+    let above = u64::BITS - shift(LEVELS + 1);
+    ((number << above) as i64 >> above) as u64
+}
+
+fn is_canonical<const LEVELS: u32>(address: u64) -> bool {
+    sign_extended::<LEVELS>(address) == address
 }
 
 /// How many bits of an address are below the index of this level.
-fn shift(level: u32) -> u32 {
+const fn shift(level: u32) -> u32 {
     12 + 9 * (level - 1)
 }
 
@@ -111,20 +118,20 @@ fn read(entry: u64, level: u32) -> Entry {
         return Entry::Table(address);
     }
     let below = address & ((1 << shift(level)) - 1) & !UNREAD_IN_LARGE;
-    match level == 4 || below != 0 {
+    match level >= 4 || below != 0 {
         true => Entry::Reserved,
         false => Entry::Page(address & !UNREAD_IN_LARGE),
     }
 }
 
 #[inline(always)]
-pub fn translate(tables: Tables, address: u64) -> Result<Translation, u8> {
+pub fn translate<const LEVELS: u32>(tables: Tables, address: u64) -> Result<Translation, u8> {
     let mut table = tables.root_table()?;
-    if !is_canonical(address) {
+    if !is_canonical::<LEVELS>(address) {
         return Err(NOT_CANONICAL);
     }
     let mut bits = Bits::OPEN;
-    for level in (1..=4).rev() {
+    for level in (1..=LEVELS).rev() {
         let entry = table[(address >> shift(level)) as usize % TABLE];
         if entry & PRESENT == 0 {
             return Ok(Translation::Absent(level));

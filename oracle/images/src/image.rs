@@ -1,4 +1,7 @@
-//! An image: words, the physical address of the first, and that of the level-4 table.
+//! An image: words, the physical address of the first, that of the root table, and the width at
+//! which it is walked.
+
+use crate::width::Width;
 
 /// The most words that a file of the program `runs` may have.
 pub const MOST_WORDS: usize = 7680;
@@ -14,13 +17,15 @@ pub const HEADER: usize = 1 + 4 + 8 + 8;
 
 #[derive(Clone, Debug, PartialEq, Eq)]
 pub struct Image {
+    pub width: Width,
     pub words: Vec<u64>,
     pub base: u64,
     pub root: u64,
 }
 
 impl Image {
-    /// The image as a file of the program `runs`. One of too many words is a file too, and refused.
+    /// The image as a file of the program `runs`, which walks 48 bits and knows no other width. One
+    /// of too many words is a file too, and refused.
     pub fn file(&self) -> Vec<u8> {
         let count = u32::try_from(self.words.len()).expect("few words");
         let mut bytes = vec![1];

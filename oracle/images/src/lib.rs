@@ -1,5 +1,5 @@
 //! Compares the port's translation and run search, and the program `runs`, with a reference
-//! written from document 01, on generated images.
+//! written from documents 01 and 02, on generated images of four and of five levels.
 //!
 //! `generate` is the list to add to: a family is a name and a function that makes its cases, and
 //! the comparisons with the program and with the library follow.
@@ -15,5 +15,6 @@ pub mod port;
 pub mod program;
 pub mod reference;
 pub mod tally;
+pub mod width;
 pub mod worked;
 pub mod worst;

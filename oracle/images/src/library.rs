@@ -5,6 +5,8 @@
 
 mod bytes;
 mod list;
+#[cfg(test)]
+mod tests;
 
 use std::{fmt, ptr, slice};
 
@@ -14,13 +16,16 @@ use crate::image::{Image, PAGE_BYTES};
 use crate::reference::looks::Looks;
 use crate::reference::search::{search, Found, Lines, Reason};
 use crate::reference::survey::Survey;
-use crate::reference::{accept, page_address, page_at, translate, PageState, Rights, PAGES};
+use crate::reference::{accept, page_address, page_at, translate, PageState, Rights};
+use crate::width::Width;
 
 pub const ANSWERED: u8 = 0;
+pub const NO_SUCH_CHOICE: u8 = 253;
 pub const NO_ROOM: u8 = 254;
 
-/// Image, its count of words, base, root, the address or page, out, and its room in words.
+/// The width, image, its count of words, base, root, the address or page, out, and its room in words.
 pub type Function = unsafe extern "C" fn(
+    width: u64,
     image: *const u64,
     words: usize,
     base: u64,
@@ -33,6 +38,7 @@ pub type Function = unsafe extern "C" fn(
 /// The same with a byte for each table behind the page, in which the call remembers whether it holds
 /// nothing, and with answers and their room in words before out.
 pub type ListFunction = unsafe extern "C" fn(
+    width: u64,
     image: *const u64,
     words: usize,
     base: u64,
@@ -64,6 +70,7 @@ pub struct Answer {
 #[derive(Debug)]
 pub struct Difference {
     pub function: &'static str,
+    pub width: u64,
     pub place: u64,
     pub reference: String,
     pub library: String,
@@ -71,47 +78,101 @@ pub struct Difference {
 
 impl fmt::Display for Difference {
     fn fmt(&self, f: &mut fmt::Formatter) -> fmt::Result {
-        write!(f, "difference: {} {:x}", self.function, self.place)?;
+        let (function, width) = (self.function, self.width);
+        write!(f, "difference: {function} {:x}, width {width}", self.place)?;
         write!(f, "\n  library    {}", self.library)?;
         write!(f, "\n  reference  {}", self.reference)
     }
 }
 
 /// Asks translate and search at the borders of what the image has, beside them, at drawn places and
-/// at such that are refused, and for lists. Gives the number of questions.
+/// at such that are refused, and for lists, all at the image's width and at numbers that are none.
+/// Gives the number of questions.
 pub fn compare(
     library: Library,
     image: &Image,
     generator: &mut Generator,
 ) -> Result<u64, Difference> {
     let survey = Survey::of(image);
+    let places = places(&survey, generator);
     let mut questions = 0;
-    for place in places(&survey, generator) {
+    for &place in &places {
+        let question = Question::of(image, place);
         let reference = translated(image, place);
-        hold("translate", library.translate, image, place, reference)?;
+        hold("translate", library.translate, question, reference)?;
         questions += 1;
         if is_short(&survey, place) {
             let reference = searched(&survey, place);
-            hold("search", library.search, image, place, reference)?;
+            hold("search", library.search, question, reference)?;
             questions += 1;
         }
     }
+    for width in NO_WIDTHS {
+        let place = *generator.pick(&places);
+        let question = Question {
+            width,
+            ..Question::of(image, place)
+        };
+        hold("translate", library.translate, question, no_such_choice())?;
+        hold("search", library.search, question, no_such_choice())?;
+        questions += 2;
+    }
     Ok(questions + list::compare(library.list, &survey, generator)?)
+}
+
+/// Numbers that are no width: beside the two, numbers of levels, and such that are 48 or 57 in their
+/// lower bits.
+const NO_WIDTHS: [u64; 16] = [
+    0,
+    4,
+    5,
+    47,
+    49,
+    52,
+    56,
+    58,
+    64,
+    (1 << 8) + 48,
+    (1 << 8) + 57,
+    (1 << 16) + 48,
+    (1 << 32) + 48,
+    (1 << 32) + 57,
+    (1 << 63) + 57,
+    u64::MAX,
+];
+
+/// What is asked of translate or search.
+#[derive(Clone, Copy)]
+struct Question<'a> {
+    width: u64,
+    image: &'a Image,
+    place: u64,
+}
+
+impl Question<'_> {
+    /// At the image's width.
+    fn of(image: &Image, place: u64) -> Question<'_> {
+        Question {
+            width: image.width.bits(),
+            image,
+            place,
+        }
+    }
 }
 
 fn hold(
     name: &'static str,
     function: Function,
-    image: &Image,
-    place: u64,
+    question: Question,
     reference: Answer,
 ) -> Result<(), Difference> {
-    let answer = ask(function, image, place, reference.words.len());
+    let answer = ask(function, question, reference.words.len());
     match answer.as_ref() == Ok(&reference) {
         true => Ok(()),
         false => Err(Difference {
             function: name,
-            place,
+            width: question.width,
+            place: question.place,
             reference: format!("{reference:x?}"),
             library: answer.map_or_else(|trouble| trouble, |a| format!("{a:x?}")),
         }),
@@ -119,11 +180,11 @@ fn hold(
 }
 
 /// A search that remembers no table is asked for only if it passes at most so many absent entries: to
-/// pass all 2^36 pages takes minutes.
+/// pass all 2^36 pages of 48 bits takes minutes.
 const MOST_PASSED: u64 = 1 << 19;
 
 fn is_short(survey: &Survey, place: u64) -> bool {
-    let first = accept(survey.image).and_then(|()| page_at(place));
+    let first = accept(survey.image).and_then(|()| page_at(survey.image.width, place));
     first.map_or(true, |page| {
         let mut looks = Looks::from(survey, page);
         looks.next();
@@ -149,10 +210,12 @@ pub fn translated(image: &Image, address: u64) -> Answer {
 /// What the search should answer: end 0, run 1 with page, frame, count and rights, or a stop with
 /// page and level, reserved 2, outside 3.
 pub fn searched(survey: &Survey, page: u64) -> Answer {
-    answer(search(survey, page).map(|found| found_words(found).to_vec()))
+    let width = survey.image.width;
+    answer(search(survey, page).map(|found| found_words(found, width).to_vec()))
 }
 
-fn found_words(found: Found) -> [u64; 5] {
+/// The words of an answer; its page is answered by its address at this width.
+fn found_words(found: Found, width: Width) -> [u64; 5] {
     match found {
         Found::End => [0; 5],
         Found::Run {
@@ -162,7 +225,7 @@ fn found_words(found: Found) -> [u64; 5] {
             rights,
         } => [
             1,
-            page_address(page),
+            page_address(width, page),
             frame * PAGE_BYTES,
             count,
             bits(rights),
@@ -176,9 +239,14 @@ fn found_words(found: Found) -> [u64; 5] {
                 Reason::Reserved => 2,
                 Reason::Outside => 3,
             };
-            [kind, page_address(page), level.into(), 0, 0]
+            [kind, page_address(width, page), level.into(), 0, 0]
         }
     }
+}
+
+/// To a question with a number that is no width.
+fn no_such_choice() -> Answer {
+    answer(Err(NO_SUCH_CHOICE))
 }
 
 fn answer(result: Result<Vec<u64>, u8>) -> Answer {
@@ -201,15 +269,19 @@ const DRAWN: usize = 8;
 
 /// Numbers to ask about; not all are addresses or pages.
 fn places(survey: &Survey, generator: &mut Generator) -> Vec<u64> {
-    let mut places = vec![0, 1, (1 << 47) - PAGE_BYTES, u64::MAX - 4095, u64::MAX];
-    places.extend([1 << 47, u64::MAX << 47, (u64::MAX << 47) - 1, 1 << 63]);
+    let width = survey.image.width;
+    let mut places = vec![0, 1, u64::MAX - 4095, u64::MAX, 1 << 63];
+    for any in Width::ALL {
+        let (low_end, high) = (1 << (any.bits() - 1), u64::MAX << (any.bits() - 1));
+        places.extend([low_end - PAGE_BYTES, low_end, high, high - 1]);
+    }
     if accept(survey.image).is_ok() {
-        let from = generator.below(2) * generator.below(PAGES);
+        let from = generator.below(2) * generator.below(width.pages());
         for found in Lines::from(survey, from).take(LINES) {
             let (Found::Run { page, .. } | Found::Stop { page, .. }) = found else {
                 continue;
             };
-            let next = found.next_page().unwrap_or(0);
+            let next = found.next_page(width).unwrap_or(0);
             let inside = page + generator.below(next.saturating_sub(page).max(1));
             let pages = [
                 page,
@@ -218,12 +290,12 @@ fn places(survey: &Survey, generator: &mut Generator) -> Vec<u64> {
                 next,
                 next.saturating_sub(1),
             ];
-            places.extend(pages.map(page_address));
-            places.push(page_address(inside) + generator.below(PAGE_BYTES));
+            places.extend(pages.map(|page| page_address(width, page)));
+            places.push(page_address(width, inside) + generator.below(PAGE_BYTES));
         }
     }
     for _ in 0..DRAWN {
-        let place = page_address(generator.below(PAGES));
+        let place = page_address(width, generator.below(width.pages()));
         places.extend([place, generator.number()]);
     }
     places
@@ -236,10 +308,10 @@ const PATTERN: u64 = 0xa5c3_96f0_5a3c_690f;
 const ROOM: usize = 8;
 
 /// Asks with out longer than the answer, exactly as long, one word too short, and of no words.
-fn ask(function: Function, image: &Image, place: u64, words: usize) -> Result<Answer, String> {
-    let answer = ask_with(function, image, place, (ROOM, words))?;
+fn ask(function: Function, question: Question, words: usize) -> Result<Answer, String> {
+    let answer = ask_with(function, question, (ROOM, words))?;
     for room in [0, words.saturating_sub(1), words] {
-        let again = ask_with(function, image, place, (room, words))?;
+        let again = ask_with(function, question, (room, words))?;
         let expected = match answer.status == ANSWERED && room < words {
             true => Answer {
                 status: NO_ROOM,
@@ -288,20 +360,20 @@ pub(crate) unsafe fn lent_to_write<'a, T>(place: *mut T, len: usize) -> &'a mut 
 /// Asks with so much room. If the function answers, the answer has `words` words.
 fn ask_with(
     function: Function,
-    image: &Image,
-    place: u64,
+    question: Question,
     (room, words): (usize, usize),
 ) -> Result<Answer, String> {
     let mut out = [PATTERN; ROOM];
-    let Image {
-        words: read,
-        base,
-        root,
-    } = image;
+    let Question {
+        width,
+        image,
+        place,
+    } = question;
     // SAFETY: the function reads the image's words and writes to `room` words at `out`.
     let status = unsafe {
         let out = place_to_write(&mut out[..room]);
-        function(place_of(read), read.len(), *base, *root, place, out, room)
+        let (read, len) = (place_of(&image.words), image.words.len());
+        function(width, read, len, image.base, image.root, place, out, room)
     };
     let written = if status == ANSWERED { words } else { 0 };
     if let Some(place) = (written..ROOM).find(|&place| out[place] != PATTERN) {
@@ -314,80 +386,4 @@ fn ask_with(
         status,
         words: out[..written].to_vec(),
     })
-}
-
-#[cfg(test)]
-mod tests {
-    use super::*;
-    use crate::generate::{Case, FAMILIES};
-
-    type Asked = fn(&Image, u64) -> Answer;
-
-    /// The reference under the convention of the library.
-    unsafe fn stand_in(
-        asked: Asked,
-        (image, words, base, root): (*const u64, usize, u64, u64),
-        place: u64,
-        (out, room): (*mut u64, usize),
-    ) -> u8 {
-        let words = lent(image, words).to_vec();
-        let answer = asked(&Image { words, base, root }, place);
-        if answer.words.len() > room {
-            return NO_ROOM;
-        }
-        lent_to_write(out, answer.words.len()).copy_from_slice(&answer.words);
-        answer.status
-    }
-
-    macro_rules! stand_ins {
-        ($($name:ident $asked:expr;)*) => {
-            $(unsafe extern "C" fn $name(
-                image: *const u64,
-                words: usize,
-                base: u64,
-                root: u64,
-                place: u64,
-                out: *mut u64,
-                room: usize,
-            ) -> u8 {
-                stand_in($asked, (image, words, base, root), place, (out, room))
-            })*
-        };
-    }
-
-    stand_ins! {
-        own_translate translated;
-        own_search |image, page| searched(&Survey::of(image), page);
-        always_end |_, _| Answer { status: ANSWERED, words: vec![0; 5] };
-    }
-
-    const OWN: Library = Library {
-        translate: own_translate,
-        search: own_search,
-        list: list::tests::own_list,
-    };
-
-    #[test]
-    fn the_reference_agrees_with_itself() {
-        for family in FAMILIES {
-            for index in 0..4 {
-                let mut generator = Generator::new(index);
-                if let Case::Image(image) = family.case(1, index) {
-                    let questions = compare(OWN, &image, &mut generator).expect("agreement");
-                    assert!(questions > 0);
-                }
-            }
-        }
-    }
-
-    #[test]
-    fn a_search_that_always_ends_differs() {
-        let wrong = Library {
-            search: always_end,
-            ..OWN
-        };
-        let image = crate::worked::case_l();
-        let difference = compare(wrong, &image, &mut Generator::new(1));
-        assert_eq!(difference.expect_err("a difference").function, "search");
-    }
 }

@@ -4,6 +4,7 @@ use crate::library::Library;
 
 unsafe extern "C" {
     fn wuohtan_translate(
+        width: u64,
         image: *const u64,
         words: usize,
         base: u64,
@@ -14,6 +15,7 @@ unsafe extern "C" {
     ) -> u8;
 
     fn wuohtan_search(
+        width: u64,
         image: *const u64,
         words: usize,
         base: u64,
@@ -24,6 +26,7 @@ unsafe extern "C" {
     ) -> u8;
 
     fn wuohtan_list(
+        width: u64,
         image: *const u64,
         words: usize,
         base: u64,

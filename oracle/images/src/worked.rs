@@ -1,8 +1,11 @@
-//! Images worked out by hand, for the folder examples/.
+//! Images worked out by hand: at 48 bits for the folder examples/, and such at 57.
+
+pub mod five_levels;
 
 use crate::draft::{page, Draft, LARGE, NO_EXECUTE, OPEN, PRESENT, USER, WRITABLE};
 use crate::image::{Image, PAGE_BYTES};
 use crate::reference::runs;
+use crate::width::Width;
 
 pub struct Worked {
     pub name: &'static str,
@@ -43,13 +46,19 @@ pub fn case_l() -> Image {
         (0x3008, 0x4003),
         (0x4000, 0x60_0003),
     ];
+    from_0x1000(Width::Bits48, 2048, &words)
+}
+
+/// So many words, zero but for those at these addresses; base and root are 0x1000.
+fn from_0x1000(width: Width, count: usize, words: &[(usize, u64)]) -> Image {
     let mut image = Image {
-        words: vec![0; 2048],
+        width,
+        words: vec![0; count],
         base: 0x1000,
         root: 0x1000,
     };
     for (address, word) in words {
-        image.words[(address - 0x1000) / 8] = word;
+        image.words[(address - 0x1000) / 8] = *word;
     }
     image
 }
@@ -57,7 +66,7 @@ pub fn case_l() -> Image {
 /// A process below the gap (code, constants, data, a stack up to the last low page) and a kernel
 /// above it (all memory in 2 MiB pages, code, data).
 fn small_kernel() -> Image {
-    let mut draft = Draft::new(0x10_0000, 12);
+    let mut draft = Draft::new(Width::Bits48, 0x10_0000, 12);
     let code = page([0, 0, 2, 0]);
     draft.map(code, 1, 16, 0x800, USER);
     draft.map(code + 16, 1, 4, 0x810, USER | NO_EXECUTE);
@@ -76,7 +85,7 @@ fn small_kernel() -> Image {
 /// One run from 4 KiB pages over 2 MiB pages to 1 GiB pages, over the borders of three tables; then
 /// the same frames again, where an upper entry takes away the right to write.
 fn page_sizes() -> Image {
-    let mut draft = Draft::new(0, 10);
+    let mut draft = Draft::new(Width::Bits48, 0, 10);
     let gib = page([0, 2, 0, 0]);
     draft.map(gib - 2 * 512 - 3, 1, 3, 0x8_0000 - 2 * 512 - 3, WRITABLE);
     draft.map(gib - 2 * 512, 2, 2, 0x8_0000 - 2 * 512, WRITABLE);
@@ -94,7 +103,7 @@ fn page_sizes() -> Image {
 /// Entries that are reserved or name tables that are not wholly inside, with pages between them;
 /// the last part of the image is shorter than a table.
 fn damaged() -> Image {
-    let mut draft = Draft::new(0x20_0000, 5);
+    let mut draft = Draft::new(Width::Bits48, 0x20_0000, 5);
     draft.map(page([0, 0, 0, 0]), 1, 4, 0x300, WRITABLE);
     let (base, end) = (draft.image.base, draft.end());
     draft.put(page([0, 0, 1, 0]), 2, (base - PAGE_BYTES) | OPEN);
@@ -111,7 +120,7 @@ fn damaged() -> Image {
 
 /// The root names itself at index 510, so that the tables are pages too.
 fn self_map() -> Image {
-    let mut draft = Draft::new(0x5000, 4);
+    let mut draft = Draft::new(Width::Bits48, 0x5000, 4);
     let root = draft.image.root;
     draft.set(root, 510, root | PRESENT | WRITABLE | NO_EXECUTE);
     draft.map(page([0, 0, 0, 16]), 1, 2, 0x77, WRITABLE);

@@ -1,7 +1,8 @@
 //! compare [--draws N] [--seed S]: the port against the unchanged Rust and the model.
 //!
-//! N is the number of drawn questions for each function, S the seed (both decimal, or hexadecimal
-//! with 0x). Ends with status 1 at a difference. A longer run: compare --draws 20000000 --seed 7
+//! N is the number of drawn questions for each function, at each width, S the seed (both decimal, or
+//! hexadecimal with 0x). Ends with status 1 at a difference. A longer run: compare --draws 20000000
+//! --seed 7
 
 use std::process::ExitCode;
 use std::sync::atomic::{AtomicBool, AtomicUsize, Ordering};

@@ -2,10 +2,18 @@
 
 use super::ranges;
 use super::sizes::{NO_SIZES, SIZES};
+use super::widths::{first_high, gap, highest_span, low_end, NO_WIDTHS};
 use crate::kind::Kind;
 
-/// Where the sizes, the halves, the gap and the address spaces begin or end, 2^64 as 0.
-pub const PLACES: [u64; 10] = [
+/// Where the sizes, the halves, the gap and the address spaces of a width begin or end, 2^64 as 0.
+pub fn places(width: u64) -> &'static [u64] {
+    match width {
+        57 => &PLACES_57,
+        _ => &PLACES_48,
+    }
+}
+
+const PLACES_48: [u64; 10] = [
     0,
     1 << 12,
     1 << 21,
@@ -15,6 +23,20 @@ pub const PLACES: [u64; 10] = [
     1 << 48,
     0xffff_8000_0000_0000,
     1 << 52,
+    1 << 63,
+];
+
+const PLACES_57: [u64; 11] = [
+    0,
+    1 << 12,
+    1 << 21,
+    1 << 30,
+    1 << 39,
+    1 << 48,
+    1 << 52,
+    1 << 56,
+    1 << 57,
+    0xff00_0000_0000_0000,
     1 << 63,
 ];
 
@@ -61,33 +83,43 @@ pub const LEVELS: [u64; 16] = [
     u64::MAX,
 ];
 
-/// All values to be crossed for an argument of this kind, each once, each with all its numbers.
-pub fn of(kind: Kind) -> Vec<Vec<u64>> {
+/// All values to be crossed for an argument of this kind, each once, each with all its numbers: around
+/// the boundaries of this width. Of widths those that are none, since each that is one is asked apart.
+pub fn of(kind: Kind, width: u64) -> Vec<Vec<u64>> {
     let mut values = match kind {
-        Kind::Number | Kind::Virtual | Kind::Physical | Kind::Count => each(numbers()),
+        Kind::Width => each(NO_WIDTHS),
+        Kind::Number | Kind::Virtual | Kind::Physical | Kind::Count => each(numbers(width)),
         Kind::Displacement => each(displacements()),
         Kind::Small => each(small_numbers()),
-        Kind::Alignment => each(alignments()),
-        Kind::Items => each(counts()),
+        Kind::Alignment => each(alignments(width)),
+        Kind::Items => each(counts(width)),
         Kind::Index => each(INDICES),
+        Kind::Index5 if width == 48 => each([0]),
+        Kind::Index5 => each(INDICES),
         Kind::Offset => each(offsets()),
         Kind::Level => each(LEVELS),
-        Kind::VirtualAndSize | Kind::PhysicalAndSize => with_sizes(addresses),
-        Kind::FrameNumber => with_sizes(|_| counts()),
-        Kind::Frame => with_sizes(|size| starts(size, &FRAME_PLACES)),
-        Kind::Page => with_sizes(|size| starts(size, &PAGE_PLACES)),
-        Kind::FrameRange | Kind::PageRange => ranges::boundary(kind),
-        Kind::Draws => each(counts()),
+        Kind::VirtualAndSize | Kind::PhysicalAndSize => {
+            with_sizes(width, |size| addresses(size, width))
+        }
+        Kind::FrameNumber => with_sizes(width, |_| counts(width)),
+        Kind::Frame => with_sizes(width, |size| starts(size, &FRAME_PLACES)),
+        Kind::Page => with_sizes(width, |size| starts(size, &page_places(width))),
+        Kind::FrameRange | Kind::PageRange => ranges::boundary(kind, width),
+        Kind::Draws => each(counts(width)),
     };
     values.sort_unstable();
     values.dedup();
     values
 }
 
-/// The few numbers at which an index, an offset or a sum with one ends; none for other kinds.
-pub fn edges(kind: Kind) -> Vec<Vec<u64>> {
+/// The few numbers at which an index, an offset or a sum with one ends, at this width; none for other
+/// kinds.
+pub fn edges(kind: Kind, width: u64) -> Vec<Vec<u64>> {
     match kind {
+        Kind::Width => each([width]),
         Kind::Index => each([511, 512]),
+        Kind::Index5 if width == 48 => each([0]),
+        Kind::Index5 => each([511, 512]),
         Kind::Offset => each([4095, 4096]),
         Kind::Small => each([0, 1, 511, 512, 4095, 4096, u64::MAX]),
         _ => Vec::new(),
@@ -98,15 +130,15 @@ fn each(numbers: impl IntoIterator<Item = u64>) -> Vec<Vec<u64>> {
     numbers.into_iter().map(|number| vec![number]).collect()
 }
 
-fn numbers() -> Vec<u64> {
-    let mut values = places_and_neighbours();
+fn numbers(width: u64) -> Vec<u64> {
+    let mut values = places_and_neighbours(width);
     values.extend(powers_of_two());
     values
 }
 
-fn places_and_neighbours() -> Vec<u64> {
+fn places_and_neighbours(width: u64) -> Vec<u64> {
     let mut values = Vec::new();
-    for place in PLACES {
+    for &place in places(width) {
         values.push(place);
         for distance in NEAR {
             values.push(place.wrapping_sub(distance));
@@ -120,10 +152,10 @@ fn powers_of_two() -> impl Iterator<Item = u64> {
     (0..64).map(|n| 1 << n)
 }
 
-fn alignments() -> Vec<u64> {
+fn alignments(width: u64) -> Vec<u64> {
     let around = |power: u64| [power.wrapping_sub(1), power, power + 1];
     let mut values: Vec<_> = powers_of_two().flat_map(around).collect();
-    values.extend([3 << 12, 3 << 47, 0xffff_8000_0000_0000, u64::MAX]);
+    values.extend([3 << 12, 3 << (width - 1), first_high(width), u64::MAX]);
     values
 }
 
@@ -157,22 +189,24 @@ fn offsets() -> Vec<u64> {
 }
 
 /// Addresses whose page or frame of this size is looked for.
-fn addresses(size: u64) -> Vec<u64> {
-    let mut values = numbers();
-    values.extend(starts(size, &PLACES));
+fn addresses(size: u64, width: u64) -> Vec<u64> {
+    let mut values = numbers(width);
+    values.extend(starts(size, places(width)));
     values
 }
 
 /// Where pages lie at a boundary: the ends of the halves, what is in the gap, and places between.
-const PAGE_PLACES: [u64; 7] = [
-    0,
-    1 << 39,
-    1 << 47,
-    1 << 48,
-    0xffff_8000_0000_0000,
-    0xffff_ff80_0000_0000,
-    1 << 63,
-];
+fn page_places(width: u64) -> [u64; 7] {
+    [
+        0,
+        highest_span(width),
+        low_end(width),
+        1 << width,
+        first_high(width),
+        highest_span(width).wrapping_neg(),
+        1 << 63,
+    ]
+}
 
 /// Where frames lie at a boundary: the ends, what is beyond them, and places between.
 const FRAME_PLACES: [u64; 6] = [0, 1 << 39, 1 << 47, 1 << 51, 1 << 52, 1 << 63];
@@ -193,11 +227,11 @@ fn starts(size: u64, places: &[u64]) -> Vec<u64> {
 }
 
 /// Numbers of items: few, and around those whose product with a size is where something ends.
-fn counts() -> Vec<u64> {
-    let gap = (1 << 64) - (1 << 48);
-    let ends = [39, 47, 48, 52, 63, 64].map(|n| 1u128 << n);
+fn counts(width: u64) -> Vec<u64> {
+    let [gap, low_end, entry] = [gap, low_end, highest_span].map(|of| u128::from(of(width)));
+    let ends = [39, width - 1, width, 52, 63, 64].map(|n| 1 << n);
     let mut values = vec![0, 1, 2, 3, 511, 512, 513, 1 << 62, 1 << 63, u64::MAX];
-    for end in ends.into_iter().chain([gap, gap + (1 << 47)]) {
+    for end in ends.into_iter().chain([entry, gap, gap + low_end]) {
         for size in SIZES {
             let count = (end / u128::from(size)) as u64;
             values.extend((0..5).map(|i| count.wrapping_add(i).wrapping_sub(2)));
@@ -207,13 +241,13 @@ fn counts() -> Vec<u64> {
 }
 
 /// The numbers for each size, and with what is no size a few of them.
-fn with_sizes(numbers: impl Fn(u64) -> Vec<u64>) -> Vec<Vec<u64>> {
+fn with_sizes(width: u64, numbers: impl Fn(u64) -> Vec<u64>) -> Vec<Vec<u64>> {
     let mut values = Vec::new();
     for size in SIZES {
         values.extend(numbers(size).into_iter().map(|number| vec![number, size]));
     }
     for no_size in NO_SIZES {
-        values.extend([0, 1, 1 << 47, u64::MAX].map(|number| vec![number, no_size]));
+        values.extend([0, 1, low_end(width), u64::MAX].map(|number| vec![number, no_size]));
     }
     values
 }

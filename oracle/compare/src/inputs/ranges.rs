@@ -1,24 +1,24 @@
 //! Ranges at whose ends an answer may change, and how many items draws pass over.
 
 use super::sizes::{NO_SIZES, SIZES};
+use super::widths::{first_high, highest_span, low_end, sign_extended};
 use crate::kind::Kind;
 use generator::Generator;
 
-const LOW_END: u64 = 1 << 47;
-const FIRST_HIGH: u64 = 0xffff_8000_0000_0000;
 const PHYSICAL_END: u64 = 1 << 52;
 
 /// Ranges of one size, from and to every start; of sizes that differ or are none from and to a few.
-pub fn boundary(kind: Kind) -> Vec<Vec<u64>> {
+pub fn boundary(kind: Kind, width: u64) -> Vec<Vec<u64>> {
     let mut values = Vec::new();
     for size in SIZES {
-        cross(&starts(kind, size), size, size, &mut values);
+        cross(&starts(kind, width, size), size, size, &mut values);
     }
     let few_no_sizes = [NO_SIZES[0], NO_SIZES[2], NO_SIZES[7], NO_SIZES[9]];
     let sizes: Vec<_> = SIZES.into_iter().chain(few_no_sizes).collect();
     for &size in &sizes {
         let others = sizes.iter().filter(|&&end_size| end_size != size);
-        others.for_each(|&end_size| cross(&few_starts(kind), size, end_size, &mut values));
+        let starts = few_starts(kind, width);
+        others.for_each(|&end_size| cross(&starts, size, end_size, &mut values));
     }
     values
 }
@@ -31,10 +31,11 @@ fn cross(starts: &[u64], size: u64, end_size: u64, values: &mut Vec<Vec<u64>>) {
 
 /// Starts of the items around the ends of the address space, and what is none: outside of it, or
 /// no multiple of the size.
-fn starts(kind: Kind, size: u64) -> Vec<u64> {
-    let mut values = vec![1, size / 2, 4096, 1 << 39, 1 << 46, 1 << 63, u64::MAX];
-    values.extend([1 << 51, FIRST_HIGH + (1 << 39), FIRST_HIGH + (1 << 46)]);
-    for &place in places(kind) {
+fn starts(kind: Kind, width: u64, size: u64) -> Vec<u64> {
+    let [first_high, low_end, entry] = [first_high, low_end, highest_span].map(|of| of(width));
+    let mut values = vec![1, size / 2, 4096, entry, low_end / 2, 1 << 63, u64::MAX];
+    values.extend([1 << 51, first_high + entry, first_high + low_end / 2]);
+    for place in places(kind, width) {
         let near = (0..8).map(|i| i * size).map(|d| d.wrapping_sub(4 * size));
         values.extend(near.map(|distance| place.wrapping_add(distance)));
     }
@@ -43,34 +44,36 @@ fn starts(kind: Kind, size: u64) -> Vec<u64> {
     values
 }
 
-fn few_starts(kind: Kind) -> Vec<u64> {
+fn few_starts(kind: Kind, width: u64) -> Vec<u64> {
     let mut values = vec![1, 4096];
-    for &place in places(kind) {
+    for place in places(kind, width) {
         values.extend([place, place.wrapping_sub(1 << 30)]);
     }
     values
 }
 
 /// Where the space and its halves begin and end, 2^64 as 0.
-fn places(kind: Kind) -> &'static [u64] {
-    match kind {
-        Kind::PageRange => &[0, LOW_END, FIRST_HIGH],
-        _ => &[0, LOW_END, PHYSICAL_END],
-    }
+fn places(kind: Kind, width: u64) -> [u64; 3] {
+    let upper = match kind {
+        Kind::PageRange => first_high(width),
+        _ => PHYSICAL_END,
+    };
+    [0, low_end(width), upper]
 }
 
-/// What a draw passes over on this range: around each number at which the answer changes. Few, if
-/// the range is refused.
-pub fn draws(kind: Kind, range: &[u64]) -> Vec<u64> {
+/// What a draw passes over on this range: around each number at which the answer changes at this width.
+/// Few, if the range is refused.
+pub fn draws(kind: Kind, width: u64, range: &[u64]) -> Vec<u64> {
     let &[start, size, end, end_size] = range else {
         unreachable!("a range has four numbers")
     };
     let of_one_size = size == end_size && SIZES.contains(&size);
-    if !of_one_size || !is_item(kind, start, size) || !is_item(kind, end, size) {
+    let is_item = |number| in_space(kind, width, number) == number && number.is_multiple_of(size);
+    if !of_one_size || !is_item(start) || !is_item(end) {
         return vec![0, 1, u64::MAX];
     }
     let around = |place: u64| (0..4).map(move |i| place.wrapping_add(i).wrapping_sub(2));
-    let places = ends(start, size, end).into_iter();
+    let places = ends(width, start, size, end).into_iter();
     let mut values: Vec<_> = places.flat_map(around).collect();
     values.extend([2, 1 << 32, 1 << 63]);
     values.sort_unstable();
@@ -78,44 +81,30 @@ pub fn draws(kind: Kind, range: &[u64]) -> Vec<u64> {
     values
 }
 
-fn is_item(kind: Kind, number: u64, size: u64) -> bool {
-    in_space(kind, number) == number && number.is_multiple_of(size)
-}
-
 /// The number itself if it is an address, else one made from it.
-fn in_space(kind: Kind, number: u64) -> u64 {
+fn in_space(kind: Kind, width: u64, number: u64) -> u64 {
     match kind {
-        Kind::PageRange if number & LOW_END != 0 => number | FIRST_HIGH,
-        Kind::PageRange => number % LOW_END,
+        Kind::PageRange => sign_extended(width, number),
         _ => number % PHYSICAL_END,
     }
 }
 
 /// 0, the items from start up to the gap, those from the first high page up to end, as many as have room
 /// from start to end, as many without the gap, and as many as have 2^64 bytes.
-fn ends(start: u64, size: u64, end: u64) -> [u64; 6] {
+fn ends(width: u64, start: u64, size: u64, end: u64) -> [u64; 6] {
     let distance = end.wrapping_sub(start);
     [
         0,
-        LOW_END.wrapping_sub(start) / size,
-        end.wrapping_sub(FIRST_HIGH) / size,
+        low_end(width).wrapping_sub(start) / size,
+        end.wrapping_sub(first_high(width)) / size,
         distance / size,
-        distance % (1 << 48) / size,
+        distance % (1 << width) / size,
         u64::MAX / size,
     ]
 }
 
-/// A range of which mostly both ends are items of one size, near a place or near each other. `push`
-/// draws any item.
-pub fn push(
-    kind: Kind,
-    args: &mut Vec<u64>,
-    generator: &mut Generator,
-    mut push: impl FnMut(&mut Vec<u64>, &mut Generator),
-) {
-    let from = args.len();
-    push(args, generator);
-    push(args, generator);
+/// Mostly a range of items of one size, near a place or near each other, seldom empty; else none.
+pub fn drawn(kind: Kind, width: u64, generator: &mut Generator) -> Option<[u64; 4]> {
     let size = *generator.pick(&SIZES);
     let few_from = |place: u64, generator: &mut Generator| {
         let items = generator.number() >> (48 + generator.below(16));
@@ -126,47 +115,32 @@ pub fn push(
         };
         match generator.below(32) {
             0 => number,
-            _ => in_space(kind, number),
+            _ => in_space(kind, width, number),
         }
     };
+    let places = places(kind, width);
     let shape = generator.below(8);
-    if shape < 6 {
-        let start = few_from(*generator.pick(places(kind)), generator);
-        let end = match shape {
-            0..3 => few_from(*generator.pick(places(kind)), generator),
-            _ => few_from(start, generator),
-        };
-        // Mostly not empty.
-        let (start, end) = match generator.below(8) {
-            0 => (start, end),
-            _ => (start.min(end), start.max(end)),
-        };
-        args.splice(from.., [start, size, end, size]);
+    if shape >= 6 {
+        return None;
     }
+    let start = few_from(*generator.pick(&places), generator);
+    let end = match shape {
+        0..3 => few_from(*generator.pick(&places), generator),
+        _ => few_from(start, generator),
+    };
+    let (start, end) = match generator.below(8) {
+        0 => (start, end),
+        _ => (start.min(end), start.max(end)),
+    };
+    Some([start, size, end, size])
 }
 
-/// What a draw passes over, mostly near a number at which the answer changes.
-pub fn draw(
-    range: &[u64],
-    generator: &mut Generator,
-    number: impl FnOnce(&mut Generator) -> u64,
-) -> u64 {
-    let size = if SIZES.contains(&range[1]) {
-        range[1]
-    } else {
-        SIZES[0]
-    };
-    match generator.below(8) {
-        0 => number(generator),
-        1 => number(generator) / size,
-        2 => generator.below(4),
-        _ => {
-            let place = *generator.pick(&ends(range[0], size, range[2]));
-            let distance = generator.number() >> (56 + generator.below(8));
-            match generator.below(2) {
-                0 => place.wrapping_add(distance),
-                _ => place.wrapping_sub(distance),
-            }
-        }
+/// What a draw passes over, near a number at which the answer changes at this width.
+pub fn near_end(width: u64, range: &[u64], size: u64, generator: &mut Generator) -> u64 {
+    let place = *generator.pick(&ends(width, range[0], size, range[2]));
+    let distance = generator.number() >> (56 + generator.below(8));
+    match generator.below(2) {
+        0 => place.wrapping_add(distance),
+        _ => place.wrapping_sub(distance),
     }
 }

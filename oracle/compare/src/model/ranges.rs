@@ -1,12 +1,13 @@
 //! Ranges. Each is a start and an end, both multiples of one size.
 
+use super::virt_addr::{canonical_of, first_high, low, low_end};
 use super::{answered, power, truth};
 use crate::answer::{Answer, DRAW_MEETS_GAP, OVERFLOW, SIZES_DIFFER};
 
-/// What items there are.
+/// What items there are, pages with the width of their addresses.
 #[derive(Clone, Copy, PartialEq, Eq)]
 enum Items {
-    Pages,
+    Pages { width: u128 },
     Frames,
 }
 
@@ -23,16 +24,6 @@ enum Bound {
 enum Rules {
     Document01,
     Today,
-}
-
-const FIRST_HIGH: u128 = power(64) - power(47);
-
-fn in_low_half(start: u128, end: u128) -> bool {
-    start < power(47) && end < power(47)
-}
-
-fn in_high_half(start: u128, end: u128) -> bool {
-    start >= FIRST_HIGH && end >= FIRST_HIGH
 }
 
 #[derive(Clone, Copy)]
@@ -53,8 +44,16 @@ impl Range {
         }
     }
 
+    fn in_low_half(self, width: u128) -> bool {
+        self.start < low_end(width) && self.end < low_end(width)
+    }
+
+    fn in_high_half(self, width: u128) -> bool {
+        self.start >= first_high(width) && self.end >= first_high(width)
+    }
+
     /// Of document 01 on the raw numbers: across the gap it counts the gap. Document 02, request Three: of
-    /// pages by low48.
+    /// pages by low48, at 57 bits by the low 57.
     fn len(self) -> u128 {
         if self.is_empty() {
             return 0;
@@ -69,7 +68,7 @@ impl Range {
     /// How many addresses are below this one, as lengths count them.
     fn position(self, address: u128) -> u128 {
         match (self.items, self.rules) {
-            (Items::Pages, Rules::Today) => address % power(48),
+            (Items::Pages { width }, Rules::Today) => low(width, address),
             _ => address,
         }
     }
@@ -78,9 +77,7 @@ impl Range {
     fn item(self, n: u128) -> u128 {
         let position = self.position(self.start) + n * self.size;
         match (self.items, self.rules) {
-            (Items::Pages, Rules::Today) if position >= power(47) => {
-                position + (power(64) - power(48))
-            }
+            (Items::Pages { width }, Rules::Today) => canonical_of(width, position),
             _ => position,
         }
     }
@@ -88,47 +85,52 @@ impl Range {
     /// The item that counts as the topmost of this size. Document 02, request One: of pages in the low
     /// half, the last one of that half.
     fn topmost(self) -> u128 {
-        let low = in_low_half(self.start, self.end);
-        match self.items {
-            Items::Pages if low && self.rules == Rules::Today => power(47) - self.size,
-            Items::Pages => power(64) - self.size,
-            Items::Frames => power(52) - self.size,
-        }
+        let end = match (self.items, self.rules) {
+            (Items::Pages { width }, Rules::Today) if self.in_low_half(width) => low_end(width),
+            (Items::Pages { .. }, _) => power(64),
+            (Items::Frames, _) => power(52),
+        };
+        end - self.size
     }
 
     /// The item that counts as the one at address 0. Document 02, request One: of pages in the high
     /// half, the first one of that half.
     fn lowest(self) -> u128 {
-        let high = in_high_half(self.start, self.end);
-        match self.items {
-            Items::Pages if high && self.rules == Rules::Today => FIRST_HIGH,
-            Items::Pages | Items::Frames => 0,
+        match (self.items, self.rules) {
+            (Items::Pages { width }, Rules::Today) if self.in_high_half(width) => first_high(width),
+            _ => 0,
         }
     }
 
     /// The conditions of 10 for a draw from the front, on a range that is not empty.
     fn front_meets_gap(self, n: u128) -> bool {
-        if self.items == Items::Frames || self.start >= power(47) {
+        let Items::Pages { width } = self.items else {
+            return false;
+        };
+        if self.start >= low_end(width) {
             return false;
         }
-        let up_to_gap = (power(47) - self.start) / self.size;
-        let last_low = power(47) - self.size;
+        let up_to_gap = (low_end(width) - self.start) / self.size;
+        let last_low = low_end(width) - self.size;
         let end_reaches = match (self.bound, self.rules) {
             (Bound::Inclusive, Rules::Document01) => self.end >= last_low,
-            (Bound::Exclusive, _) | (_, Rules::Today) => self.end >= FIRST_HIGH,
+            (Bound::Exclusive, _) | (_, Rules::Today) => self.end >= first_high(width),
         };
         n >= up_to_gap - 1 && end_reaches
     }
 
     /// The conditions of 10 for a draw from the back, on a range that is not empty.
     fn back_meets_gap(self, n: u128) -> bool {
-        if self.items == Items::Frames || self.end < FIRST_HIGH {
+        let Items::Pages { width } = self.items else {
+            return false;
+        };
+        if self.end < first_high(width) {
             return false;
         }
-        let down_to_gap = (self.end - FIRST_HIGH) / self.size;
+        let down_to_gap = (self.end - first_high(width)) / self.size;
         let start_reaches = match (self.bound, self.rules) {
-            (Bound::Inclusive, Rules::Document01) => self.start <= FIRST_HIGH,
-            (Bound::Exclusive, _) | (_, Rules::Today) => self.start < power(47),
+            (Bound::Inclusive, Rules::Document01) => self.start <= first_high(width),
+            (Bound::Exclusive, _) | (_, Rules::Today) => self.start < low_end(width),
         };
         n >= down_to_gap && start_reaches
     }
@@ -218,17 +220,17 @@ fn word(number: u128) -> u64 {
     u64::try_from(number).expect("an answered number has 64 bits")
 }
 
-/// The functions on ranges of one type.
+/// The functions on ranges of one type, those of pages at a width.
 macro_rules! functions {
-    ($($module:ident: $bound:ident $items:ident $rules:ident;)*) => {$(
+    ($($module:ident: $bound:ident $items:ident$(($width:ident))? $rules:ident;)*) => {$(
         pub mod $module {
             use super::{answered, truth, Bound, Items, Range, Rules};
             use crate::answer::Answer;
 
-            fn range(start: u128, size: u128, end: u128) -> Range {
+            fn range($($width: u128,)? start: u128, size: u128, end: u128) -> Range {
                 Range {
                     rules: Rules::$rules,
-                    items: Items::$items,
+                    items: Items::$items $({ $width })?,
                     bound: Bound::$bound,
                     size,
                     start,
@@ -236,52 +238,56 @@ macro_rules! functions {
                 }
             }
 
-            pub fn new(start: u128, size: u128, end: u128, _: u128) -> Answer {
-                Answer::words(&range(start, size, end).ends())
+            pub fn new($($width: u128,)? start: u128, size: u128, end: u128, _: u128) -> Answer {
+                Answer::words(&range($($width,)? start, size, end).ends())
             }
 
-            pub fn is_empty(start: u128, size: u128, end: u128, _: u128) -> Answer {
-                truth(range(start, size, end).is_empty())
+            pub fn is_empty($($width: u128,)? start: u128, size: u128, end: u128, _: u128) -> Answer {
+                truth(range($($width,)? start, size, end).is_empty())
             }
 
-            pub fn len(start: u128, size: u128, end: u128, _: u128) -> Answer {
-                answered(range(start, size, end).len())
+            pub fn len($($width: u128,)? start: u128, size: u128, end: u128, _: u128) -> Answer {
+                answered(range($($width,)? start, size, end).len())
             }
 
-            pub fn size(start: u128, size: u128, end: u128, _: u128) -> Answer {
-                range(start, size, end).size()
+            pub fn size($($width: u128,)? start: u128, size: u128, end: u128, _: u128) -> Answer {
+                range($($width,)? start, size, end).size()
             }
 
-            pub fn next(start: u128, size: u128, end: u128, _: u128) -> Answer {
-                range(start, size, end).nth(0)
+            pub fn next($($width: u128,)? start: u128, size: u128, end: u128, _: u128) -> Answer {
+                range($($width,)? start, size, end).nth(0)
             }
 
-            pub fn nth(start: u128, size: u128, end: u128, _: u128, n: u128) -> Answer {
-                range(start, size, end).nth(n)
+            pub fn nth(
+                $($width: u128,)? start: u128, size: u128, end: u128, _: u128, n: u128
+            ) -> Answer {
+                range($($width,)? start, size, end).nth(n)
             }
 
-            pub fn next_back(start: u128, size: u128, end: u128, _: u128) -> Answer {
-                range(start, size, end).nth_back(0)
+            pub fn next_back($($width: u128,)? start: u128, size: u128, end: u128, _: u128) -> Answer {
+                range($($width,)? start, size, end).nth_back(0)
             }
 
-            pub fn nth_back(start: u128, size: u128, end: u128, _: u128, n: u128) -> Answer {
-                range(start, size, end).nth_back(n)
+            pub fn nth_back(
+                $($width: u128,)? start: u128, size: u128, end: u128, _: u128, n: u128
+            ) -> Answer {
+                range($($width,)? start, size, end).nth_back(n)
             }
         }
     )*};
 }
 
 functions! {
-    page_range: Exclusive Pages Today;
-    page_range_before: Exclusive Pages Document01;
-    page_range_inclusive: Inclusive Pages Today;
-    page_range_inclusive_before: Inclusive Pages Document01;
+    page_range: Exclusive Pages(width) Today;
+    page_range_before: Exclusive Pages(width) Document01;
+    page_range_inclusive: Inclusive Pages(width) Today;
+    page_range_inclusive_before: Inclusive Pages(width) Document01;
     phys_frame_range: Exclusive Frames Today;
     phys_frame_range_inclusive: Inclusive Frames Today;
 }
 
 /// Only a range of 2 MiB pages has one.
-pub fn as_4kib_page_range(start: u128, size: u128, end: u128, _: u128) -> Answer {
+pub fn as_4kib_page_range(_width: u128, start: u128, size: u128, end: u128, _: u128) -> Answer {
     if size == power(21) {
         Answer::words(&[word(start), word(end)])
     } else {

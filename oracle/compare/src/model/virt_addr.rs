@@ -1,96 +1,103 @@
-//! Virtual addresses.
+//! Virtual addresses of a width.
 
 use super::numbers::{multiple, rounded_down, rounded_up};
 use super::{answered, power, truth};
 use crate::answer::{Answer, NOT_CANONICAL, OVERFLOW, RESULT_NOT_CANONICAL};
 
-/// The last address below the gap and the first above it.
-const LAST_LOW: u128 = 0x7fff_ffff_ffff;
-const FIRST_HIGH: u128 = 0xffff_8000_0000_0000;
-
-pub fn canonical(number: u128) -> bool {
-    number <= LAST_LOW || number >= FIRST_HIGH
+/// Where the low half ends and the gap begins.
+pub fn low_end(width: u128) -> u128 {
+    power(width - 1)
 }
 
-fn low48(number: u128) -> u128 {
-    number % power(48)
+/// The first address above the gap.
+pub fn first_high(width: u128) -> u128 {
+    power(64) - power(width - 1)
 }
 
-/// The canonical address with this low48.
-pub fn canonical_of(low48: u128) -> u128 {
-    if low48 <= LAST_LOW {
-        low48
+pub fn canonical(width: u128, number: u128) -> bool {
+    number < low_end(width) || number >= first_high(width)
+}
+
+/// The number modulo 2 to the power of the width, low48 in document 01.
+pub fn low(width: u128, number: u128) -> u128 {
+    number % power(width)
+}
+
+/// The canonical address with these low bits.
+pub fn canonical_of(width: u128, low: u128) -> u128 {
+    if low < low_end(width) {
+        low
     } else {
-        low48 - power(47) + FIRST_HIGH
+        low - low_end(width) + first_high(width)
     }
 }
 
-pub fn try_new(addr: u128) -> Answer {
-    if canonical(addr) {
+pub fn try_new(width: u128, addr: u128) -> Answer {
+    if canonical(width, addr) {
         answered(addr)
     } else {
         Answer::refused(NOT_CANONICAL)
     }
 }
 
-pub fn new_truncate(addr: u128) -> Answer {
-    answered(canonical_of(low48(addr)))
+pub fn new_truncate(width: u128, addr: u128) -> Answer {
+    answered(canonical_of(width, low(width, addr)))
 }
 
 pub fn zero() -> Answer {
     answered(0)
 }
 
-pub fn as_u64(addr: u128) -> Answer {
+pub fn as_u64(_width: u128, addr: u128) -> Answer {
     answered(addr)
 }
 
-pub fn is_null(addr: u128) -> Answer {
+pub fn is_null(_width: u128, addr: u128) -> Answer {
     truth(addr == 0)
 }
 
-pub fn align_up(addr: u128, align: u128) -> Answer {
+pub fn align_up(width: u128, addr: u128, align: u128) -> Answer {
     match rounded_up(addr, align) {
         Ok(rounded) if rounded == power(64) => Answer::refused(OVERFLOW),
-        Ok(rounded) => new_truncate(rounded),
+        Ok(rounded) => new_truncate(width, rounded),
         Err(number) => Answer::refused(number),
     }
 }
 
-pub fn align_down(addr: u128, align: u128) -> Answer {
+pub fn align_down(width: u128, addr: u128, align: u128) -> Answer {
     match rounded_down(addr, align) {
-        Ok(rounded) => new_truncate(rounded),
+        Ok(rounded) => new_truncate(width, rounded),
         Err(number) => Answer::refused(number),
     }
 }
 
-pub fn is_aligned(addr: u128, align: u128) -> Answer {
+pub fn is_aligned(_width: u128, addr: u128, align: u128) -> Answer {
     match multiple(addr, align) {
         Ok(value) => truth(value),
         Err(number) => Answer::refused(number),
     }
 }
 
-pub fn add(addr: u128, count: u128) -> Answer {
+pub fn add(width: u128, addr: u128, count: u128) -> Answer {
     let sum = addr + count;
     if sum >= power(64) {
         Answer::refused(OVERFLOW)
     } else {
-        result(sum)
+        result(width, sum)
     }
 }
 
-pub fn sub(addr: u128, count: u128) -> Answer {
+pub fn sub(width: u128, addr: u128, count: u128) -> Answer {
     if addr < count {
         Answer::refused(OVERFLOW)
     } else {
-        result(addr - count)
+        result(width, addr - count)
     }
 }
 
 /// A number of 64 bits as the result of `+` or `-`.
-fn result(number: u128) -> Answer {
-    if canonical(number) {
+fn result(width: u128, number: u128) -> Answer {
+    if canonical(width, number) {
         answered(number)
     } else {
         Answer::refused(RESULT_NOT_CANONICAL)
@@ -98,10 +105,10 @@ fn result(number: u128) -> Answer {
 }
 
 /// The exact sum of an address and a displacement.
-pub fn add_signed(addr: u128, displacement: u128) -> Answer {
+pub fn add_signed(width: u128, addr: u128, displacement: u128) -> Answer {
     let sum = addr as i128 + signed(displacement);
     match u128::try_from(sum) {
-        Ok(sum) if sum < power(64) => result(sum),
+        Ok(sum) if sum < power(64) => result(width, sum),
         _ => Answer::refused(OVERFLOW),
     }
 }
@@ -116,7 +123,7 @@ fn signed(number: u128) -> i128 {
     }
 }
 
-pub fn sub_addr(addr: u128, other: u128) -> Answer {
+pub fn sub_addr(_width: u128, addr: u128, other: u128) -> Answer {
     if addr < other {
         Answer::refused(OVERFLOW)
     } else {
@@ -124,28 +131,28 @@ pub fn sub_addr(addr: u128, other: u128) -> Answer {
     }
 }
 
-pub fn forward_checked_u64(start: u128, count: u128) -> Answer {
-    let sum = low48(start) + count;
-    if sum < power(48) {
-        answered(canonical_of(sum))
+pub fn forward_checked_u64(width: u128, start: u128, count: u128) -> Answer {
+    let sum = low(width, start) + count;
+    if sum < power(width) {
+        answered(canonical_of(width, sum))
     } else {
         Answer::none()
     }
 }
 
-pub fn backward_checked_u64(start: u128, count: u128) -> Answer {
-    if low48(start) >= count {
-        answered(canonical_of(low48(start) - count))
+pub fn backward_checked_u64(width: u128, start: u128, count: u128) -> Answer {
+    if low(width, start) >= count {
+        answered(canonical_of(width, low(width, start) - count))
     } else {
         Answer::none()
     }
 }
 
-/// How far the end lies above the start, in the low 48 bits.
-pub fn steps(start: u128, end: u128) -> Option<u128> {
-    low48(end).checked_sub(low48(start))
+/// How far the end lies above the start, in the low bits.
+pub fn steps(width: u128, start: u128, end: u128) -> Option<u128> {
+    low(width, end).checked_sub(low(width, start))
 }
 
-pub fn steps_between_u64(start: u128, end: u128) -> Answer {
-    steps(start, end).map_or(Answer::none(), answered)
+pub fn steps_between_u64(width: u128, start: u128, end: u128) -> Answer {
+    steps(width, start, end).map_or(Answer::none(), answered)
 }

@@ -33,19 +33,19 @@ pub const NUMBERS: &[Operation] = &[
 
 pub const VIRT_ADDR: &[Operation] = &[
     operation! {
-        0x10 virt_addr_new(addr: Number)
+        0x10 virt_addr_new(width: Width, addr: Number)
         port wuohtan_virt_addr_new,
         rust [VirtAddr::new],
         model virt_addr::try_new
     },
     operation! {
-        0x11 virt_addr_try_new(addr: Number)
+        0x11 virt_addr_try_new(width: Width, addr: Number)
         port wuohtan_virt_addr_try_new,
         rust [VirtAddr::try_new],
         model virt_addr::try_new
     },
     operation! {
-        0x12 virt_addr_new_truncate(addr: Number)
+        0x12 virt_addr_new_truncate(width: Width, addr: Number)
         port wuohtan_virt_addr_new_truncate,
         rust [VirtAddr::new_truncate],
         model virt_addr::new_truncate
@@ -57,73 +57,73 @@ pub const VIRT_ADDR: &[Operation] = &[
         model virt_addr::zero
     },
     operation! {
-        0x14 virt_addr_as_u64(addr: Virtual)
+        0x14 virt_addr_as_u64(width: Width, addr: Virtual)
         port wuohtan_virt_addr_as_u64,
         rust [VirtAddr::as_u64],
         model virt_addr::as_u64
     },
     operation! {
-        0x15 virt_addr_is_null(addr: Virtual)
+        0x15 virt_addr_is_null(width: Width, addr: Virtual)
         port wuohtan_virt_addr_is_null,
         rust [VirtAddr::is_null],
         model virt_addr::is_null
     },
     operation! {
-        0x16 virt_addr_align_up(addr: Virtual, align: Alignment)
+        0x16 virt_addr_align_up(width: Width, addr: Virtual, align: Alignment)
         port wuohtan_virt_addr_align_up,
         rust [VirtAddr::align_up::<u64>],
         model virt_addr::align_up
     },
     operation! {
-        0x17 virt_addr_align_down(addr: Virtual, align: Alignment)
+        0x17 virt_addr_align_down(width: Width, addr: Virtual, align: Alignment)
         port wuohtan_virt_addr_align_down,
         rust [VirtAddr::align_down::<u64>, virt_addr_align_down_u64],
         model virt_addr::align_down
     },
     operation! {
-        0x18 virt_addr_is_aligned(addr: Virtual, align: Alignment)
+        0x18 virt_addr_is_aligned(width: Width, addr: Virtual, align: Alignment)
         port wuohtan_virt_addr_is_aligned,
         rust [VirtAddr::is_aligned::<u64>, virt_addr_is_aligned_u64],
         model virt_addr::is_aligned
     },
     operation! {
-        0x19 virt_addr_add(addr: Virtual, count: Count)
+        0x19 virt_addr_add(width: Width, addr: Virtual, count: Count)
         port wuohtan_virt_addr_add,
         rust [<VirtAddr as Add<u64>>::add, add_assign::<VirtAddr>],
         model virt_addr::add
     },
     operation! {
-        0x1a virt_addr_sub(addr: Virtual, count: Count)
+        0x1a virt_addr_sub(width: Width, addr: Virtual, count: Count)
         port wuohtan_virt_addr_sub,
         rust [<VirtAddr as Sub<u64>>::sub, sub_assign::<VirtAddr>],
         model virt_addr::sub
     },
     operation! {
-        0x1b virt_addr_sub_addr(addr: Virtual, other: Virtual)
+        0x1b virt_addr_sub_addr(width: Width, addr: Virtual, other: Virtual)
         port wuohtan_virt_addr_sub_addr,
         rust [<VirtAddr as Sub<VirtAddr>>::sub],
         model virt_addr::sub_addr
     },
     operation! {
-        0x1c virt_addr_forward_checked_u64(start: Virtual, count: Count)
+        0x1c virt_addr_forward_checked_u64(width: Width, start: Virtual, count: Count)
         port wuohtan_virt_addr_forward_checked_u64,
         rust [virt_addr_forward_checked_u64, step_forward_checked::<VirtAddr>],
         model virt_addr::forward_checked_u64
     },
     operation! {
-        0x1d virt_addr_backward_checked_u64(start: Virtual, count: Count)
+        0x1d virt_addr_backward_checked_u64(width: Width, start: Virtual, count: Count)
         port wuohtan_virt_addr_backward_checked_u64,
         rust [virt_addr_backward_checked_u64, step_backward_checked::<VirtAddr>],
         model virt_addr::backward_checked_u64
     },
     operation! {
-        0x1e virt_addr_steps_between_u64(start: Virtual, end: Virtual)
+        0x1e virt_addr_steps_between_u64(width: Width, start: Virtual, end: Virtual)
         port wuohtan_virt_addr_steps_between_u64,
         rust [virt_addr_steps_between_u64, step_steps_between::<VirtAddr>],
         model virt_addr::steps_between_u64
     },
     operation! {
-        0x1f virt_addr_add_signed(addr: Virtual, displacement: Displacement)
+        0x1f virt_addr_add_signed(width: Width, addr: Virtual, displacement: Displacement)
         port wuohtan_virt_addr_add_signed,
         rust [add_signed],
         model virt_addr::add_signed

@@ -78,25 +78,25 @@ pub const PAGE_TABLE: &[Operation] = &[
         model page_table::into_u64
     },
     operation! {
-        0x3c page_table_level_next_lower_level(level: Level)
+        0x3c page_table_level_next_lower_level(width: Width, level: Level)
         port wuohtan_page_table_level_next_lower_level,
         rust [PageTableLevel::next_lower_level],
         model page_table::next_lower_level
     },
     operation! {
-        0x3d page_table_level_next_higher_level(level: Level)
+        0x3d page_table_level_next_higher_level(width: Width, level: Level)
         port wuohtan_page_table_level_next_higher_level,
         rust [PageTableLevel::next_higher_level],
         model page_table::next_higher_level
     },
     operation! {
-        0x3e page_table_level_table_address_space_alignment(level: Level)
+        0x3e page_table_level_table_address_space_alignment(width: Width, level: Level)
         port wuohtan_page_table_level_table_address_space_alignment,
         rust [PageTableLevel::table_address_space_alignment],
         model page_table::table_address_space_alignment
     },
     operation! {
-        0x3f page_table_level_entry_address_space_alignment(level: Level)
+        0x3f page_table_level_entry_address_space_alignment(width: Width, level: Level)
         port wuohtan_page_table_level_entry_address_space_alignment,
         rust [PageTableLevel::entry_address_space_alignment],
         model page_table::entry_address_space_alignment
@@ -105,13 +105,13 @@ pub const PAGE_TABLE: &[Operation] = &[
 
 pub const VIRT_ADDR: &[Operation] = &[
     operation! {
-        0x40 virt_addr_page_offset(addr: Virtual)
+        0x40 virt_addr_page_offset(width: Width, addr: Virtual)
         port wuohtan_virt_addr_page_offset,
         rust [VirtAddr::page_offset],
         model page_table::page_offset
     },
     operation! {
-        0x41 virt_addr_p1_index(addr: Virtual)
+        0x41 virt_addr_p1_index(width: Width, addr: Virtual)
         port wuohtan_virt_addr_p1_index,
         rust [
             VirtAddr::p1_index,
@@ -120,7 +120,7 @@ pub const VIRT_ADDR: &[Operation] = &[
         model page_table::p1_index
     },
     operation! {
-        0x42 virt_addr_p2_index(addr: Virtual)
+        0x42 virt_addr_p2_index(width: Width, addr: Virtual)
         port wuohtan_virt_addr_p2_index,
         rust [
             VirtAddr::p2_index,
@@ -129,7 +129,7 @@ pub const VIRT_ADDR: &[Operation] = &[
         model page_table::p2_index
     },
     operation! {
-        0x43 virt_addr_p3_index(addr: Virtual)
+        0x43 virt_addr_p3_index(width: Width, addr: Virtual)
         port wuohtan_virt_addr_p3_index,
         rust [
             VirtAddr::p3_index,
@@ -138,7 +138,7 @@ pub const VIRT_ADDR: &[Operation] = &[
         model page_table::p3_index
     },
     operation! {
-        0x44 virt_addr_p4_index(addr: Virtual)
+        0x44 virt_addr_p4_index(width: Width, addr: Virtual)
         port wuohtan_virt_addr_p4_index,
         rust [
             VirtAddr::p4_index,
@@ -147,7 +147,7 @@ pub const VIRT_ADDR: &[Operation] = &[
         model page_table::p4_index
     },
     operation! {
-        0x45 virt_addr_page_table_index(addr: Virtual, level: Level)
+        0x45 virt_addr_page_table_index(width: Width, addr: Virtual, level: Level)
         port wuohtan_virt_addr_page_table_index,
         rust [VirtAddr::page_table_index, index_by_name],
         model page_table::page_table_index

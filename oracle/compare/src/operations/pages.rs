@@ -17,35 +17,35 @@ use crate::operation::Operation;
 
 pub const PAGE: &[Operation] = &[
     operation! {
-        0x60 page_from_start_address(address size: VirtualAndSize)
+        0x60 page_from_start_address(width: Width, address size: VirtualAndSize)
         port wuohtan_page_from_start_address,
         sizes (size: Size4KiB Size2MiB Size1GiB),
         rust [Page::<S>::from_start_address],
         model pages::from_start_address
     },
     operation! {
-        0x61 page_containing_address(address size: VirtualAndSize)
+        0x61 page_containing_address(width: Width, address size: VirtualAndSize)
         port wuohtan_page_containing_address,
         sizes (size: Size4KiB Size2MiB Size1GiB),
         rust [Page::<S>::containing_address],
         model pages::containing_address
     },
     operation! {
-        0x62 page_start_address(start size: Page)
+        0x62 page_start_address(width: Width, start size: Page)
         port wuohtan_page_start_address,
         sizes (size: Size4KiB Size2MiB Size1GiB),
         rust [Page::<S>::start_address],
         model pages::start_address
     },
     operation! {
-        0x63 page_size(start size: Page)
+        0x63 page_size(width: Width, start size: Page)
         port wuohtan_page_size,
         sizes (size: Size4KiB Size2MiB Size1GiB),
         rust [Page::<S>::size, |_: Page<S>| Page::<S>::SIZE],
         model pages::size
     },
     operation! {
-        0x64 page_p1_index(start size: Page)
+        0x64 page_p1_index(width: Width, start size: Page)
         port wuohtan_page_p1_index,
         sizes (size: Size4KiB),
         rust [
@@ -55,7 +55,7 @@ pub const PAGE: &[Operation] = &[
         model pages::p1_index
     },
     operation! {
-        0x65 page_p2_index(start size: Page)
+        0x65 page_p2_index(width: Width, start size: Page)
         port wuohtan_page_p2_index,
         sizes (size: Size4KiB Size2MiB),
         rust [
@@ -65,7 +65,7 @@ pub const PAGE: &[Operation] = &[
         model pages::p2_index
     },
     operation! {
-        0x66 page_p3_index(start size: Page)
+        0x66 page_p3_index(width: Width, start size: Page)
         port wuohtan_page_p3_index,
         sizes (size: Size4KiB Size2MiB Size1GiB),
         rust [
@@ -75,7 +75,7 @@ pub const PAGE: &[Operation] = &[
         model pages::p3_index
     },
     operation! {
-        0x67 page_p4_index(start size: Page)
+        0x67 page_p4_index(width: Width, start size: Page)
         port wuohtan_page_p4_index,
         sizes (size: Size4KiB Size2MiB Size1GiB),
         rust [
@@ -85,7 +85,7 @@ pub const PAGE: &[Operation] = &[
         model pages::p4_index
     },
     operation! {
-        0x68 page_page_table_index(start size: Page, level: Level)
+        0x68 page_page_table_index(width: Width, start size: Page, level: Level)
         port wuohtan_page_page_table_index,
         sizes (size: Size4KiB Size2MiB Size1GiB),
         rust [
@@ -96,61 +96,66 @@ pub const PAGE: &[Operation] = &[
     },
     operation! {
         0x69 page_from_page_table_indices(
-            p4_index: Index, p3_index: Index, p2_index: Index, p1_index: Index
+            width: Width, p5_index: Index5, p4_index: Index, p3_index: Index, p2_index: Index,
+            p1_index: Index
         )
         port wuohtan_page_from_page_table_indices,
         rust [Page::from_page_table_indices],
         model pages::from_page_table_indices
     },
     operation! {
-        0x6a page_from_page_table_indices_2mib(p4_index: Index, p3_index: Index, p2_index: Index)
+        0x6a page_from_page_table_indices_2mib(
+            width: Width, p5_index: Index5, p4_index: Index, p3_index: Index, p2_index: Index
+        )
         port wuohtan_page_from_page_table_indices_2mib,
         rust [Page::from_page_table_indices_2mib],
         model pages::from_page_table_indices_2mib
     },
     operation! {
-        0x6b page_from_page_table_indices_1gib(p4_index: Index, p3_index: Index)
+        0x6b page_from_page_table_indices_1gib(
+            width: Width, p5_index: Index5, p4_index: Index, p3_index: Index
+        )
         port wuohtan_page_from_page_table_indices_1gib,
         rust [Page::from_page_table_indices_1gib],
         model pages::from_page_table_indices_1gib
     },
     operation! {
-        0x6c page_add(start size: Page, count: Items)
+        0x6c page_add(width: Width, start size: Page, count: Items)
         port wuohtan_page_add,
         sizes (size: Size4KiB Size2MiB Size1GiB),
         rust [<Page<S> as Add<u64>>::add, add_assign::<Page<S>>],
         model pages::add
     },
     operation! {
-        0x6d page_sub(start size: Page, count: Items)
+        0x6d page_sub(width: Width, start size: Page, count: Items)
         port wuohtan_page_sub,
         sizes (size: Size4KiB Size2MiB Size1GiB),
         rust [<Page<S> as Sub<u64>>::sub, sub_assign::<Page<S>>],
         model pages::sub
     },
     operation! {
-        0x6e page_sub_page(start size: Page, other other_size: Page)
+        0x6e page_sub_page(width: Width, start size: Page, other other_size: Page)
         port wuohtan_page_sub_page,
         sizes (size: Size4KiB Size2MiB Size1GiB),
         rust [<Page<S> as Sub<Page<S>>>::sub],
         model pages::sub_page
     },
     operation! {
-        0x6f page_forward_checked(start size: Page, count: Items)
+        0x6f page_forward_checked(width: Width, start size: Page, count: Items)
         port wuohtan_page_forward_checked,
         sizes (size: Size4KiB Size2MiB Size1GiB),
         rust [step_forward_checked::<Page<S>>, page_forward_checked_impl::<S>],
         model pages::forward_checked
     },
     operation! {
-        0x70 page_backward_checked(start size: Page, count: Items)
+        0x70 page_backward_checked(width: Width, start size: Page, count: Items)
         port wuohtan_page_backward_checked,
         sizes (size: Size4KiB Size2MiB Size1GiB),
         rust [step_backward_checked::<Page<S>>],
         model pages::backward_checked
     },
     operation! {
-        0x71 page_steps_between_u64(start size: Page, end end_size: Page)
+        0x71 page_steps_between_u64(width: Width, start size: Page, end end_size: Page)
         port wuohtan_page_steps_between_u64,
         sizes (size: Size4KiB Size2MiB Size1GiB),
         rust [page_steps_between_u64::<S>, step_steps_between::<Page<S>>],

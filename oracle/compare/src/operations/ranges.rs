@@ -14,21 +14,21 @@ use crate::rust::{drawn, refusal_of_draw};
 
 pub const PAGE_RANGE: &[Operation] = &[
     operation! {
-        0x80 page_range_new(start start_size end end_size: PageRange)
+        0x80 page_range_new(width: Width, start start_size end end_size: PageRange)
         port wuohtan_page_range_new,
         sizes (start_size: Size4KiB Size2MiB Size1GiB),
         rust [|range: PageRange<S>| range],
         model ranges::page_range::new
     },
     operation! {
-        0x81 page_range_is_empty(start start_size end end_size: PageRange)
+        0x81 page_range_is_empty(width: Width, start start_size end end_size: PageRange)
         port wuohtan_page_range_is_empty,
         sizes (start_size: Size4KiB Size2MiB Size1GiB),
         rust [|range: PageRange<S>| range.is_empty()],
         model ranges::page_range::is_empty
     },
     operation! {
-        0x82 page_range_len(start start_size end end_size: PageRange)
+        0x82 page_range_len(width: Width, start start_size end end_size: PageRange)
         port wuohtan_page_range_len,
         sizes (start_size: Size4KiB Size2MiB Size1GiB),
         rust [
@@ -39,7 +39,7 @@ pub const PAGE_RANGE: &[Operation] = &[
         model ranges::page_range::len
     },
     operation! {
-        0x83 page_range_size(start start_size end end_size: PageRange)
+        0x83 page_range_size(width: Width, start start_size end end_size: PageRange)
         port wuohtan_page_range_size,
         sizes (start_size: Size4KiB Size2MiB Size1GiB),
         rust [|range: PageRange<S>| range.size()],
@@ -47,7 +47,7 @@ pub const PAGE_RANGE: &[Operation] = &[
         model ranges::page_range::size
     },
     operation! {
-        0x84 page_range_next(start start_size end end_size: PageRange)
+        0x84 page_range_next(width: Width, start start_size end end_size: PageRange)
         port wuohtan_page_range_next,
         sizes (start_size: Size4KiB Size2MiB Size1GiB),
         rust [
@@ -58,7 +58,7 @@ pub const PAGE_RANGE: &[Operation] = &[
         model ranges::page_range::next
     },
     operation! {
-        0x85 page_range_nth(start start_size end end_size: PageRange, n: Draws)
+        0x85 page_range_nth(width: Width, start start_size end end_size: PageRange, n: Draws)
         port wuohtan_page_range_nth,
         sizes (start_size: Size4KiB Size2MiB Size1GiB),
         rust [|range: PageRange<S>, n| drawn(range, |range| range.nth(n))],
@@ -66,7 +66,7 @@ pub const PAGE_RANGE: &[Operation] = &[
         model ranges::page_range::nth
     },
     operation! {
-        0x86 page_range_next_back(start start_size end end_size: PageRange)
+        0x86 page_range_next_back(width: Width, start start_size end end_size: PageRange)
         port wuohtan_page_range_next_back,
         sizes (start_size: Size4KiB Size2MiB Size1GiB),
         rust [
@@ -77,7 +77,7 @@ pub const PAGE_RANGE: &[Operation] = &[
         model ranges::page_range::next_back
     },
     operation! {
-        0x87 page_range_nth_back(start start_size end end_size: PageRange, n: Draws)
+        0x87 page_range_nth_back(width: Width, start start_size end end_size: PageRange, n: Draws)
         port wuohtan_page_range_nth_back,
         sizes (start_size: Size4KiB Size2MiB Size1GiB),
         rust [|range: PageRange<S>, n| drawn(range, |range| range.nth_back(n))],
@@ -85,7 +85,7 @@ pub const PAGE_RANGE: &[Operation] = &[
         model ranges::page_range::nth_back
     },
     operation! {
-        0x88 page_range_as_4kib_page_range(start start_size end end_size: PageRange)
+        0x88 page_range_as_4kib_page_range(width: Width, start start_size end end_size: PageRange)
         port wuohtan_page_range_as_4kib_page_range,
         sizes (start_size: Size2MiB),
         rust [PageRange::<S>::as_4kib_page_range],
@@ -95,21 +95,21 @@ pub const PAGE_RANGE: &[Operation] = &[
 
 pub const PAGE_RANGE_INCLUSIVE: &[Operation] = &[
     operation! {
-        0x90 page_range_inclusive_new(start start_size end end_size: PageRange)
+        0x90 page_range_inclusive_new(width: Width, start start_size end end_size: PageRange)
         port wuohtan_page_range_inclusive_new,
         sizes (start_size: Size4KiB Size2MiB Size1GiB),
         rust [|range: PageRangeInclusive<S>| range],
         model ranges::page_range_inclusive::new
     },
     operation! {
-        0x91 page_range_inclusive_is_empty(start start_size end end_size: PageRange)
+        0x91 page_range_inclusive_is_empty(width: Width, start start_size end end_size: PageRange)
         port wuohtan_page_range_inclusive_is_empty,
         sizes (start_size: Size4KiB Size2MiB Size1GiB),
         rust [|range: PageRangeInclusive<S>| range.is_empty()],
         model ranges::page_range_inclusive::is_empty
     },
     operation! {
-        0x92 page_range_inclusive_len(start start_size end end_size: PageRange)
+        0x92 page_range_inclusive_len(width: Width, start start_size end end_size: PageRange)
         port wuohtan_page_range_inclusive_len,
         sizes (start_size: Size4KiB Size2MiB Size1GiB),
         rust [
@@ -120,7 +120,7 @@ pub const PAGE_RANGE_INCLUSIVE: &[Operation] = &[
         model ranges::page_range_inclusive::len
     },
     operation! {
-        0x93 page_range_inclusive_size(start start_size end end_size: PageRange)
+        0x93 page_range_inclusive_size(width: Width, start start_size end end_size: PageRange)
         port wuohtan_page_range_inclusive_size,
         sizes (start_size: Size4KiB Size2MiB Size1GiB),
         rust [|range: PageRangeInclusive<S>| range.size()],
@@ -128,7 +128,7 @@ pub const PAGE_RANGE_INCLUSIVE: &[Operation] = &[
         model ranges::page_range_inclusive::size
     },
     operation! {
-        0x94 page_range_inclusive_next(start start_size end end_size: PageRange)
+        0x94 page_range_inclusive_next(width: Width, start start_size end end_size: PageRange)
         port wuohtan_page_range_inclusive_next,
         sizes (start_size: Size4KiB Size2MiB Size1GiB),
         rust [
@@ -140,7 +140,7 @@ pub const PAGE_RANGE_INCLUSIVE: &[Operation] = &[
         model ranges::page_range_inclusive::next
     },
     operation! {
-        0x95 page_range_inclusive_nth(start start_size end end_size: PageRange, n: Draws)
+        0x95 page_range_inclusive_nth(width: Width, start start_size end end_size: PageRange, n: Draws)
         port wuohtan_page_range_inclusive_nth,
         sizes (start_size: Size4KiB Size2MiB Size1GiB),
         rust [|range: PageRangeInclusive<S>, n| drawn(range, |range| range.nth(n))],
@@ -149,7 +149,7 @@ pub const PAGE_RANGE_INCLUSIVE: &[Operation] = &[
         model ranges::page_range_inclusive::nth
     },
     operation! {
-        0x96 page_range_inclusive_next_back(start start_size end end_size: PageRange)
+        0x96 page_range_inclusive_next_back(width: Width, start start_size end end_size: PageRange)
         port wuohtan_page_range_inclusive_next_back,
         sizes (start_size: Size4KiB Size2MiB Size1GiB),
         rust [
@@ -161,7 +161,7 @@ pub const PAGE_RANGE_INCLUSIVE: &[Operation] = &[
         model ranges::page_range_inclusive::next_back
     },
     operation! {
-        0x97 page_range_inclusive_nth_back(start start_size end end_size: PageRange, n: Draws)
+        0x97 page_range_inclusive_nth_back(width: Width, start start_size end end_size: PageRange, n: Draws)
         port wuohtan_page_range_inclusive_nth_back,
         sizes (start_size: Size4KiB Size2MiB Size1GiB),
         rust [|range: PageRangeInclusive<S>, n| drawn(range, |range| range.nth_back(n))],

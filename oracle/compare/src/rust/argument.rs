@@ -9,14 +9,21 @@ use x86_64::{PhysAddr, VirtAddr};
 use super::Unasked;
 use crate::kind::{self, Kind};
 
-/// Whether every level and every page size is one that the Rust has.
-pub fn has_choices(kinds: &[Kind], args: &[u64]) -> bool {
-    kind::split(kinds, args).all(|(kind, words)| {
-        let choices = kind.choices(words);
-        choices.level.is_none_or(|number| level(number).is_some())
-            && choices.sizes().all(|size| SIZES.contains(&size))
+/// Whether the Rust has the width, every level and every page size. It has no index of level 5: one of
+/// 0 is said by leaving it out.
+pub fn can_say(kinds: &[Kind], args: &[u64]) -> bool {
+    kind::split(kinds, args).all(|(kind, words)| match kind {
+        Kind::Width => words == [WIDTH],
+        Kind::Index5 => words == [0],
+        _ => {
+            let choices = kind.choices(words);
+            choices.level.is_none_or(|number| level(number).is_some())
+                && choices.sizes().all(|size| SIZES.contains(&size))
+        }
     })
 }
+
+const WIDTH: u64 = 48;
 
 const SIZES: [u64; 3] = [Size4KiB::SIZE, Size2MiB::SIZE, Size1GiB::SIZE];
 

@@ -16,6 +16,7 @@ use images::generate::{Family, FAMILIES};
 use images::program;
 use images::reference::runs;
 use images::tally::Tally;
+use images::width::Width;
 
 const DEFAULT_COUNT: u64 = 400;
 const DEFAULT_SEED: u64 = 1;
@@ -94,7 +95,7 @@ fn compare_one(
     index: u64,
     seed: u64,
 ) -> Result<String, Box<Difference>> {
-    let input = family.case(seed, index).input();
+    let input = family.case(Width::Bits48, seed, index).input();
     let cuts = cuts(input.len(), index);
     let expected = runs::output(&input);
     let answer = program::ask(program, &input, &cuts);

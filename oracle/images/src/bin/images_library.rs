@@ -1,7 +1,8 @@
-//! images_library [COUNT [SEED]]: the port's functions on images against the reference.
+//! images_library [COUNT [SEED]]: the port's functions on images against the reference, at both
+//! widths.
 //!
-//! COUNT is the number of cases of each family, SEED the seed (both decimal). Ends with status 1 at
-//! a difference, and leaves the image in a file.
+//! COUNT is the number of cases of each family at each width, SEED the seed (both decimal). Ends with
+//! status 1 at a difference, and leaves the image in a file.
 
 use std::process::ExitCode;
 use std::sync::atomic::{AtomicUsize, Ordering};
@@ -15,6 +16,7 @@ use images::generate::{Case, Family, FAMILIES};
 use images::image::Image;
 use images::library::{self, Difference};
 use images::port::PORT;
+use images::width::Width;
 
 const DEFAULT_COUNT: u64 = 400;
 const DEFAULT_SEED: u64 = 1;
@@ -30,18 +32,31 @@ fn main() -> ExitCode {
         return ExitCode::from(2);
     };
     let start = Instant::now();
-    for (family, result) in FAMILIES.iter().zip(compare_all(count, seed)) {
-        match result {
-            Ok(questions) => println!("{:16}{questions:>10} questions", family.name),
-            Err(found) => {
-                report(family, &found);
-                return ExitCode::FAILURE;
-            }
+    for width in Width::ALL {
+        let mut all = 0;
+        for (family, result) in FAMILIES.iter().zip(compare_all(width, count, seed)) {
+            let questions = match result {
+                Ok(questions) => questions,
+                Err(found) => {
+                    report(family, &found);
+                    return ExitCode::FAILURE;
+                }
+            };
+            summary(family.name, questions, width);
+            all += questions;
         }
+        summary("all", all, width);
     }
     let seconds = start.elapsed().as_secs_f64();
     println!("no difference; seed {seed}, {count} cases of each family, {seconds:.1} s");
     ExitCode::SUCCESS
+}
+
+fn summary(name: &str, questions: u64, width: Width) {
+    println!(
+        "{name:16}{questions:>10} questions at {} bits",
+        width.bits()
+    );
 }
 
 /// A difference with the index of its case and the image.
@@ -53,8 +68,9 @@ struct Found {
 
 type Compared = Result<u64, Found>;
 
-/// Compares the families, as many at a time as there are processors. The results are in their order.
-fn compare_all(count: u64, seed: u64) -> Vec<Compared> {
+/// Compares the families at a width, as many at a time as there are processors. The results are in
+/// their order.
+fn compare_all(width: Width, count: u64, seed: u64) -> Vec<Compared> {
     let next = AtomicUsize::new(0);
     let results = Mutex::new(Vec::new());
     let work = || loop {
@@ -62,7 +78,7 @@ fn compare_all(count: u64, seed: u64) -> Vec<Compared> {
         let Some(family) = FAMILIES.get(place) else {
             break;
         };
-        let result = compare(family, count, seed);
+        let result = compare(family, width, count, seed);
         results.lock().unwrap().push((place, result));
     };
     let threads = thread::available_parallelism().map_or(1, |n| n.get());
@@ -77,10 +93,10 @@ fn compare_all(count: u64, seed: u64) -> Vec<Compared> {
 }
 
 /// How many questions were asked, unless there is a difference.
-fn compare(family: &Family, count: u64, seed: u64) -> Compared {
+fn compare(family: &Family, width: Width, count: u64, seed: u64) -> Compared {
     let mut questions = 0;
     for index in 0..count {
-        let Case::Image(image) = family.case(seed, index) else {
+        let Case::Image(image) = family.case(width, seed, index) else {
             continue;
         };
         match compare_one(&image, index) {
@@ -116,6 +132,7 @@ fn compare_one(image: &Image, index: u64) -> Result<u64, Difference> {
     };
     Err(Difference {
         function: "a call, from",
+        width: image.width.bits(),
         place: 0,
         reference: "an answer".into(),
         library: trouble,
@@ -123,9 +140,12 @@ fn compare_one(image: &Image, index: u64) -> Result<u64, Difference> {
 }
 
 fn report(family: &Family, found: &Found) {
-    let (name, index) = (family.name, found.index);
-    println!("{}\nin {name}, case {index}", found.difference);
-    let place = env::temp_dir().join(format!("images-{name}-{index}.image"));
+    let (name, index, bits) = (family.name, found.index, found.image.width.bits());
+    println!(
+        "{}\nin {name}, case {index} at {bits} bits",
+        found.difference
+    );
+    let place = env::temp_dir().join(format!("images-{name}-{bits}-{index}.image"));
     match fs::write(&place, found.image.file()) {
         Ok(()) => println!("{}", place.display()),
         Err(error) => println!("the image could not be written: {error}"),

@@ -9,6 +9,7 @@ use std::time::Instant;
 use std::{env, fs};
 
 use images::program;
+use images::width::Width;
 use images::worst::{self, Worst};
 
 /// How often the program is run for an image.
@@ -20,7 +21,7 @@ fn main() -> ExitCode {
         return ExitCode::from(2);
     };
     println!("{:16}{:>9}{:>9}{:>9}", "ms", "lines", "best", "median");
-    for worst in worst::all() {
+    for worst in worst::all(Width::Bits48) {
         match times(&program, &worst) {
             Ok((lines, times)) => {
                 let (best, median) = (times[0], times[RUNS / 2]);

@@ -6,22 +6,30 @@ use super::drawn::{self, FRAMES};
 use super::Case;
 use crate::draft::{Draft, NO_EXECUTE, USER, WRITABLE};
 use crate::image::TABLE;
-use crate::reference::{span_pages, HALF, PAGES};
+use crate::reference::span_pages;
+use crate::width::Width;
 
 /// A run up to the border of two tables and one from it, mostly one run.
-pub fn table_borders(index: u64, generator: &mut Generator) -> Case {
-    let level = 2 + (index % 3) as u32;
-    let mut draft = drawn::full_draft(generator);
-    let border = drawn::page(generator) / span_pages(level) * span_pages(level);
+pub fn table_borders(width: Width, index: u64, generator: &mut Generator) -> Case {
+    let (level, _) = drawn::upper(width, index);
+    let mut draft = drawn::full_draft(width, generator);
+    let border = drawn::page(width, generator) / span_pages(level) * span_pages(level);
     across(&mut draft, border.max(span_pages(level)), level, generator);
     drawn::finish(&mut draft, generator);
     Case::Image(draft.image)
 }
 
-/// The same where the halves meet: the frames are consecutive, the runs are two.
-pub fn half_border(_: u64, generator: &mut Generator) -> Case {
-    let mut draft = drawn::full_draft(generator);
-    across(&mut draft, HALF, 4, generator);
+/// The same where the halves meet: the frames are consecutive, the runs are two. At five levels some
+/// are where they meet at four, on either side of the gap, and are mostly one run.
+pub fn half_border(width: Width, index: u64, generator: &mut Generator) -> Case {
+    let mut draft = drawn::full_draft(width, generator);
+    let of_four = Width::Bits48.half();
+    let border = match (width, index % 4) {
+        (Width::Bits57, 2) => of_four,
+        (Width::Bits57, 3) => width.pages() - of_four,
+        _ => width.half(),
+    };
+    across(&mut draft, border, width.levels(), generator);
     drawn::finish(&mut draft, generator);
     Case::Image(draft.image)
 }
@@ -56,16 +64,17 @@ fn across(draft: &mut Draft, border: u64, level: u32, generator: &mut Generator)
         ),
         _ => (frame, rights),
     };
-    let count = counts[1].min((PAGES - border) / span_pages(after));
+    let pages = draft.image.width.pages();
+    let count = counts[1].min((pages - border) / span_pages(after));
     drawn::stretch(draft, (border, after, count), (frame, rights), generator);
 }
 
 /// One run that goes up from 4 KiB pages to 1 GiB pages and down again; sometimes a part is
 /// missing, or has other rights.
-pub fn page_sizes(_: u64, generator: &mut Generator) -> Case {
-    let mut draft = drawn::full_draft(generator);
+pub fn page_sizes(width: Width, _: u64, generator: &mut Generator) -> Case {
+    let mut draft = drawn::full_draft(width, generator);
     let gib = span_pages(3);
-    let border = (drawn::page(generator) / gib * gib).clamp(gib, PAGES - 8 * gib);
+    let border = (drawn::page(width, generator) / gib * gib).clamp(gib, width.pages() - 8 * gib);
     let frame = drawn::frame(3, generator).clamp(gib, FRAMES - 8 * gib);
     let rights = drawn::rights(generator);
     let most = [512, 511, 4, 511, 512];
@@ -98,13 +107,13 @@ pub fn page_sizes(_: u64, generator: &mut Generator) -> Case {
 
 /// Frames go on over a border, and the rights change above the last entry only: by the bit and
 /// the level of the index.
-pub fn upper_rights(index: u64, generator: &mut Generator) -> Case {
+pub fn upper_rights(width: Width, index: u64, generator: &mut Generator) -> Case {
     let bit = [WRITABLE, USER, NO_EXECUTE][index as usize % 3];
-    let level = 2 + (index / 3 % 3) as u32;
-    let mut draft = drawn::full_draft(generator);
+    let (level, _) = drawn::upper(width, index / 3);
+    let mut draft = drawn::full_draft(width, generator);
     let span = span_pages(level);
-    let border = (drawn::page(generator) / span * span).clamp(span, PAGES - span);
-    let leaf = 1 + generator.below(u64::from(level) - 1) as u32;
+    let border = (drawn::page(width, generator) / span * span).clamp(span, width.pages() - span);
+    let leaf = 1 + generator.below((level - 1).min(3).into()) as u32;
     let frame = drawn::frame(3, generator).max(4 * span_pages(3));
     let rights = drawn::rights(generator);
     let count = 1 + generator.below(4);
@@ -117,7 +126,7 @@ pub fn upper_rights(index: u64, generator: &mut Generator) -> Case {
     }
     // Further changes, sometimes such that both sides are alike again.
     for _ in 0..generator.below(3) {
-        let upper = leaf + 1 + generator.below(u64::from(4 - leaf)) as u32;
+        let upper = leaf + 1 + generator.below(u64::from(width.levels() - leaf)) as u32;
         let side = border - generator.below(2);
         let bit = *generator.pick(&[bit, bit, WRITABLE, USER, NO_EXECUTE]);
         if let Some(entry) = draft.at(side, upper) {
@@ -129,11 +138,12 @@ pub fn upper_rights(index: u64, generator: &mut Generator) -> Case {
 }
 
 /// Runs up to the last frame, and pages from frame 0 on just after them.
-pub fn last_frame(index: u64, generator: &mut Generator) -> Case {
-    let mut draft = drawn::full_draft(generator);
+pub fn last_frame(width: Width, index: u64, generator: &mut Generator) -> Case {
+    let mut draft = drawn::full_draft(width, generator);
     let [before, after] = [1 + index % 3, 1 + index / 3 % 3].map(|level| level as u32);
     let gib = span_pages(3);
-    let border = (drawn::page(generator) / gib * gib).clamp(4 * gib, PAGES - 4 * gib);
+    let border =
+        (drawn::page(width, generator) / gib * gib).clamp(4 * gib, width.pages() - 4 * gib);
     let rights = drawn::rights(generator);
     let count = 1 + generator.below(4);
     let first = border - count * span_pages(before);

@@ -5,9 +5,10 @@ use generator::Generator;
 use crate::draft::{self, Draft, LARGE, NO_EXECUTE, PRESENT, USER, WRITABLE};
 use crate::image::{MOST_WORDS, PAGE_BYTES, TABLE};
 use crate::reference::span_pages;
+use crate::width::Width;
 
 /// The most tables that a file has room for.
-pub const MOST_TABLES: usize = MOST_WORDS / TABLE;
+const MOST_TABLES: usize = MOST_WORDS / TABLE;
 
 /// The number of frames.
 pub const FRAMES: u64 = 1 << 40;
@@ -22,15 +23,30 @@ const UNREAD_IN_LARGE: u64 = 1 << 12;
 const INDICES: [u64; 8] = [0, 1, 2, 254, 255, 256, 510, 511];
 
 /// Free tables at a drawn base, in a drawn order.
-pub fn draft(tables: usize, generator: &mut Generator) -> Draft {
+pub fn draft(width: Width, tables: usize, generator: &mut Generator) -> Draft {
     let mut order: Vec<_> = (0..tables).collect();
     generator.shuffle(&mut order);
-    Draft::with_order(base(tables, generator), &order)
+    Draft::with_order(width, base(tables, generator), &order)
 }
 
 /// A draft of as many tables as there may be.
-pub fn full_draft(generator: &mut Generator) -> Draft {
-    draft(MOST_TABLES, generator)
+pub fn full_draft(width: Width, generator: &mut Generator) -> Draft {
+    draft(width, most_tables(width), generator)
+}
+
+/// As many tables as a file has room for; at five levels, which no file has, a few more, since each
+/// way to a page takes one more.
+pub fn most_tables(width: Width) -> usize {
+    match width {
+        Width::Bits48 => MOST_TABLES,
+        Width::Bits57 => MOST_TABLES + 4,
+    }
+}
+
+/// A level above 1 by the index, and what is left of the index to choose by.
+pub fn upper(width: Width, index: u64) -> (u32, u64) {
+    let count = u64::from(width.levels() - 1);
+    (2 + (index % count) as u32, index / count)
 }
 
 /// A base such that so many tables end at 2^52 or below.
@@ -54,8 +70,8 @@ pub fn index(generator: &mut Generator) -> u64 {
 }
 
 /// The number of a page at a drawn place.
-pub fn page(generator: &mut Generator) -> u64 {
-    draft::page([0; 4].map(|_| index(generator)))
+pub fn page(width: Width, generator: &mut Generator) -> u64 {
+    draft::page((0..width.levels()).map(|_| index(generator)))
 }
 
 /// The number of a frame that a page of this level's size can have.

@@ -6,6 +6,7 @@ use super::drawn::{self, FRAMES};
 use super::Case;
 use crate::draft::OPEN;
 use crate::image::{Image, HEADER, MOST_WORDS, PAGE_BYTES, TABLE};
+use crate::width::Width;
 
 /// Addresses that are refused 2 (also where 3 would apply), and such that are refused 3.
 const NO_ADDRESSES: [u64; 6] = [
@@ -20,8 +21,8 @@ const UNALIGNED: [u64; 5] = [1, 8, 4095, 4097, (1 << 52) - 1];
 
 /// Base and root good or refused, in all combinations, with a root inside, before, behind or cut
 /// off.
-pub fn refusals(index: u64, generator: &mut Generator) -> Case {
-    let mut image = small_image(generator);
+pub fn refusals(width: Width, index: u64, generator: &mut Generator) -> Case {
+    let mut image = small_image(width, generator);
     image.base = image.base.max(PAGE_BYTES);
     let cut = generator.below(3) * generator.below(TABLE as u64);
     let whole = generator.below(3) * TABLE as u64;
@@ -45,9 +46,10 @@ pub fn refusals(index: u64, generator: &mut Generator) -> Case {
     Case::Image(image)
 }
 
-/// A file with a wrong version, count or length, also where base and root would be refused.
-pub fn wrong_files(index: u64, generator: &mut Generator) -> Case {
-    let mut image = small_image(generator);
+/// A file with a wrong version, count or length, also where base and root would be refused. A file is
+/// walked at 48 bits, and these are the same at each width.
+pub fn wrong_files(_: Width, index: u64, generator: &mut Generator) -> Case {
+    let mut image = small_image(Width::Bits48, generator);
     if generator.below(4) == 0 {
         image.base = *generator.pick(&NO_ADDRESSES);
     }
@@ -86,9 +88,9 @@ pub fn wrong_files(index: u64, generator: &mut Generator) -> Case {
 }
 
 /// A table or two with a page.
-fn small_image(generator: &mut Generator) -> Image {
+fn small_image(width: Width, generator: &mut Generator) -> Image {
     let tables = 1 + generator.below(2) as usize;
-    let mut draft = drawn::draft(tables, generator);
+    let mut draft = drawn::draft(width, tables, generator);
     let root = draft.image.root;
     draft.set(root, drawn::index(generator), root | OPEN);
     draft.image
@@ -99,7 +101,13 @@ fn full_file(count: usize, base: u64) -> Vec<u8> {
     let mut words = vec![0; count];
     words[0] = (base % (FRAMES * PAGE_BYTES)) | OPEN;
     let root = base;
-    Image { words, base, root }.file()
+    let image = Image {
+        width: Width::Bits48,
+        words,
+        base,
+        root,
+    };
+    image.file()
 }
 
 fn set_count(file: &mut [u8], count: u32) {

@@ -5,24 +5,25 @@ use generator::Generator;
 use super::{drawn, Case};
 use crate::draft::{Draft, LARGE, NO_EXECUTE, OPEN, PRESENT};
 use crate::image::{PAGE_BYTES, TABLE};
-use crate::reference::{span_pages, PAGES};
+use crate::reference::span_pages;
+use crate::width::Width;
 
 /// Up to how many lines are made around the limit.
 const COUNTS: [u64; 8] = [4095, 4096, 4096, 4096, 4097, 4098, 4608, 6000];
 
 /// A row of pages or of broken entries, each a line of its own, with nothing behind it, or a page
 /// or a stop, or with the last page as its last.
-pub fn many_lines(index: u64, generator: &mut Generator) -> Case {
-    let mut draft = drawn::full_draft(generator);
+pub fn many_lines(width: Width, index: u64, generator: &mut Generator) -> Case {
+    let mut draft = drawn::full_draft(width, generator);
     let count = COUNTS[(index % 8) as usize];
     let stops = index / 8 % 4 == 3;
     let size = span_pages(if stops { 2 } else { 1 });
     let at_the_end = generator.below(3) == 0;
     let start = match at_the_end {
-        true => PAGES - count * size,
+        true => width.pages() - count * size,
         // Within a level-3 table, so that the tables suffice.
         false => {
-            let upper = drawn::page(generator) / span_pages(4) * span_pages(4);
+            let upper = drawn::page(width, generator) / span_pages(4) * span_pages(4);
             upper + generator.below(100) * span_pages(3) + generator.below(512) * size
         }
     };

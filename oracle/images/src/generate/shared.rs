@@ -5,13 +5,14 @@ use generator::Generator;
 use super::{drawn, Case};
 use crate::draft::{Draft, OPEN, PRESENT};
 use crate::image::{PAGE_BYTES, TABLE};
-use crate::reference::{span_pages, PAGES};
+use crate::reference::span_pages;
+use crate::width::Width;
 
 /// The root names itself, tables name each other in circles, or a table has nothing but its own
 /// name.
-pub fn self_naming(index: u64, generator: &mut Generator) -> Case {
+pub fn self_naming(width: Width, index: u64, generator: &mut Generator) -> Case {
     let tables = 1 + generator.below(6) as usize;
-    let mut draft = drawn::draft(tables, generator);
+    let mut draft = drawn::draft(width, tables, generator);
     let root = draft.image.root;
     match index % 4 {
         0 => {
@@ -27,7 +28,7 @@ pub fn self_naming(index: u64, generator: &mut Generator) -> Case {
         _ => circles(&mut draft, tables, generator),
     }
     if generator.below(2) == 0 {
-        let (page, frame) = (drawn::page(generator), drawn::frame(1, generator));
+        let (page, frame) = (drawn::page(width, generator), drawn::frame(1, generator));
         drawn::stretch(&mut draft, (page, 1, 4), (frame, OPEN), generator);
     }
     drawn::finish(&mut draft, generator);
@@ -49,12 +50,13 @@ fn circles(draft: &mut Draft, tables: usize, generator: &mut Generator) {
 }
 
 /// One table below many entries at each level, with few pages or none in the last.
-pub fn shared_tables(index: u64, generator: &mut Generator) -> Case {
-    let mut draft = drawn::draft(4, generator);
+pub fn shared_tables(width: Width, index: u64, generator: &mut Generator) -> Case {
+    let levels = width.levels() as usize;
+    let mut draft = drawn::draft(width, levels, generator);
     let mut upper = draft.image.root;
     // The tables are tried once for each way to them: ways are kept to some hundreds.
-    for most in [4, 8, 16] {
-        let lower = draft.take().expect("four tables");
+    for &most in &[2, 4, 8, 16][5 - levels..] {
+        let lower = draft.take().expect("a table for each level");
         for _ in 0..1 + generator.below(most) {
             let rights = match generator.below(4) {
                 0 => drawn::rights(generator),
@@ -77,14 +79,15 @@ pub fn shared_tables(index: u64, generator: &mut Generator) -> Case {
 /// Pages up to a border and pages some entries on, with entries between them that name a table with
 /// nothing in it, at the level of the index. An entry before names it too, so that it is known by
 /// then. Mostly the frames go on as if nothing were between.
-pub fn empty_between(index: u64, generator: &mut Generator) -> Case {
-    let level = 2 + (index % 3) as u32;
-    let between = index / 3 % 4;
-    let mut draft = drawn::full_draft(generator);
+pub fn empty_between(width: Width, index: u64, generator: &mut Generator) -> Case {
+    let (level, left) = drawn::upper(width, index);
+    let between = left % 4;
+    let mut draft = drawn::full_draft(width, generator);
     let empty = draft.take().expect("a table");
     let span = span_pages(level);
-    let border = (drawn::page(generator) / span * span).clamp(2 * span, PAGES - 4 * span);
-    let leaf = 1 + generator.below(u64::from(level) - 1) as u32;
+    let border =
+        (drawn::page(width, generator) / span * span).clamp(2 * span, width.pages() - 4 * span);
+    let leaf = 1 + generator.below((level - 1).min(3).into()) as u32;
     let (size, count) = (span_pages(leaf), 1 + generator.below(4));
     let frame = drawn::frame(3, generator) + 4 * size;
     let rights = drawn::rights(generator);

@@ -3,9 +3,9 @@
 use std::mem;
 use std::ops::ControlFlow::{self, Break, Continue};
 
-use super::{is_canonical, read, Bits, Entry, Tables, ADDRESS, PRESENT};
+use super::{is_canonical, read, sign_extended, Bits, Entry, Tables, ADDRESS, PRESENT};
 use crate::image::{PAGE_BYTES, TABLE};
-use crate::reference::{HALF, NOT_ALIGNED, NOT_CANONICAL, PAGES};
+use crate::reference::{NOT_ALIGNED, NOT_CANONICAL};
 
 /// The words of an answer.
 pub const WORDS: usize = 5;
@@ -22,48 +22,51 @@ pub struct Listed {
 
 /// The answers of searches from a page on, as many as have room. Byte i of `empty` remembers the
 /// levels at which table i of the words holds nothing; a table without a byte is read each time.
-pub fn list(
+pub fn list<const LEVELS: u32>(
     tables: Tables,
     page: u64,
     empty: &mut [u8],
     answers: &mut [u64],
 ) -> Result<Listed, u8> {
-    let (root, from) = start(tables, page)?;
+    let (root, from) = start::<LEVELS>(tables, page)?;
     empty.fill(0);
-    Ok(pass(tables, root, from, empty, answers))
+    Ok(pass::<LEVELS>(tables, root, from, empty, answers))
 }
 
 /// The same with what the bytes remember.
-pub fn go_on(
+pub fn go_on<const LEVELS: u32>(
     tables: Tables,
     page: u64,
     empty: &mut [u8],
     answers: &mut [u64],
 ) -> Result<Listed, u8> {
-    let (root, from) = start(tables, page)?;
-    Ok(pass(tables, root, from, empty, answers))
+    let (root, from) = start::<LEVELS>(tables, page)?;
+    Ok(pass::<LEVELS>(tables, root, from, empty, answers))
 }
 
 /// The root table and the number of the page, or the first refusal.
-fn start<'a>(tables: Tables<'a>, page: u64) -> Result<(&'a [u64; TABLE], u64), u8> {
+fn start<'a, const LEVELS: u32>(
+    tables: Tables<'a>,
+    page: u64,
+) -> Result<(&'a [u64; TABLE], u64), u8> {
     let root = tables.root_table()?;
-    if !is_canonical(page) {
+    if !is_canonical::<LEVELS>(page) {
         return Err(NOT_CANONICAL);
     }
     if page & 0xfff != 0 {
         return Err(NOT_ALIGNED);
     }
-    Ok((root, (page >> 12) % PAGES))
+    Ok((root, (page >> 12) % pages_under(LEVELS)))
 }
 
-fn pass(
+fn pass<const LEVELS: u32>(
     tables: Tables,
     root: &[u64; TABLE],
     from: u64,
     empty: &mut [u8],
     answers: &mut [u64],
 ) -> Listed {
-    let mut pass = Pass {
+    let mut pass = Pass::<LEVELS> {
         tables,
         from,
         empty,
@@ -90,20 +93,20 @@ struct Run {
     rights: u64,
 }
 
-struct Pass<'a, 'b> {
+struct Pass<'a, 'b, const LEVELS: u32> {
     tables: Tables<'a>,
     /// Pages before this one are not looked at.
     from: u64,
     empty: &'b mut [u8],
     run: Run,
-    answers: Answers<'b>,
+    answers: Answers<'b, LEVELS>,
 }
 
-impl Pass<'_, '_> {
+impl<const LEVELS: u32> Pass<'_, '_, LEVELS> {
     fn whole(&mut self, root: &[u64; TABLE]) -> ControlFlow<()> {
-        self.table(root, 4, 0, Bits::OPEN)?;
+        self.table(root, LEVELS, 0, Bits::OPEN)?;
         self.close()?;
-        self.answers.store([0; WORDS], PAGES)
+        self.answers.store([0; WORDS], pages_under(LEVELS))
     }
 
     /// The entries of a table above level 1, which begins with the page `first`; whether it holds
@@ -115,7 +118,7 @@ impl Pass<'_, '_> {
         first: u64,
         bits: Bits,
     ) -> ControlFlow<(), bool> {
-        let span = 1 << (9 * (level - 1));
+        let span = pages_under(level - 1);
         let skipped = self.from.saturating_sub(first) / span;
         let mut start = first + skipped * span;
         let mut holds = false;
@@ -132,7 +135,7 @@ impl Pass<'_, '_> {
 
     /// An entry above level 1 that is present, and what is below it.
     fn present(&mut self, entry: u64, level: u32, start: u64, bits: Bits) -> ControlFlow<(), bool> {
-        let end = start + (1 << (9 * (level - 1)));
+        let end = start + pages_under(level - 1);
         let page = start.max(self.from);
         match read(entry, level) {
             Entry::Reserved => self.stop([RESERVED, page, level.into()], end)?,
@@ -206,7 +209,8 @@ impl Pass<'_, '_> {
     fn mapped(&mut self, page: u64, physical: u64, count: u64, rights: u64) -> ControlFlow<()> {
         let run = &mut self.run;
         let due = run.physical + run.count * PAGE_BYTES;
-        if run.count != 0 && physical == due && rights == run.rights && page != HALF {
+        let high = pages_under(LEVELS) / 2;
+        if run.count != 0 && physical == due && rights == run.rights && page != high {
             run.count += count;
             return Continue(());
         }
@@ -222,7 +226,8 @@ impl Pass<'_, '_> {
 
     fn stop(&mut self, [kind, page, level]: [u64; 3], next: u64) -> ControlFlow<()> {
         self.close()?;
-        self.answers.store([kind, address(page), level, 0, 0], next)
+        let page = address::<LEVELS>(page);
+        self.answers.store([kind, page, level, 0, 0], next)
     }
 
     /// Stores the run if there is one: what follows does not belong to it.
@@ -237,7 +242,7 @@ impl Pass<'_, '_> {
             count,
             rights,
         } = mem::take(&mut self.run);
-        let words = [RUN, address(page), physical, count, rights];
+        let words = [RUN, address::<LEVELS>(page), physical, count, rights];
         self.answers.store(words, page + count)
     }
 }
@@ -250,18 +255,23 @@ fn length(entries: &[u64], such: impl Fn(u64, u64) -> bool) -> usize {
         .count()
 }
 
-/// The first address of a page.
-fn address(page: u64) -> u64 {
-    ((page << 28) as i64 >> 16) as u64
+/// The pages under a table of this level, and 1 for level 0: an entry has those of the level below.
+const fn pages_under(level: u32) -> u64 {
+    1 << (9 * level)
 }
 
-struct Answers<'a> {
+/// The first address of a page.
+fn address<const LEVELS: u32>(page: u64) -> u64 {
+    sign_extended::<LEVELS>(page << 12)
+}
+
+struct Answers<'a, const LEVELS: u32> {
     free: &'a mut [u64],
     stored: u64,
     next: u64,
 }
 
-impl Answers<'_> {
+impl<const LEVELS: u32> Answers<'_, LEVELS> {
     /// Breaks if there is no room for a further answer, or no page.
     fn store(&mut self, words: [u64; WORDS], next: u64) -> ControlFlow<()> {
         let Some((place, free)) = mem::take(&mut self.free).split_first_chunk_mut() else {
@@ -271,7 +281,7 @@ impl Answers<'_> {
         self.free = free;
         self.stored += 1;
         self.next = next;
-        match self.free.len() < WORDS || next == PAGES {
+        match self.free.len() < WORDS || next == pages_under(LEVELS) {
             true => Break(()),
             false => Continue(()),
         }
@@ -280,7 +290,7 @@ impl Answers<'_> {
     fn listed(&self) -> Listed {
         Listed {
             stored: self.stored,
-            next: (self.next < PAGES).then(|| address(self.next)),
+            next: (self.next < pages_under(LEVELS)).then(|| address::<LEVELS>(self.next)),
         }
     }
 }

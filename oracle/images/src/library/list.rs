@@ -5,12 +5,13 @@ use generator::Generator;
 use super::bytes::Bytes;
 use super::{
     found_words, place_of, place_to_write, Difference, ListFunction, ANSWERED, MOST_PASSED,
-    NO_ROOM, PATTERN,
+    NO_ROOM, NO_SUCH_CHOICE, NO_WIDTHS, PATTERN,
 };
 use crate::image::Image;
 use crate::reference::search::{Found, Lines};
 use crate::reference::survey::Survey;
-use crate::reference::{accept, page_address, page_at, PAGES};
+use crate::reference::{accept, page_address, page_at};
+use crate::width::Width;
 
 /// The words of an answer, and those of out.
 const WORDS: usize = 5;
@@ -19,8 +20,14 @@ const OUT: usize = 3;
 /// So many words lie behind the room and must be left alone.
 const BEHIND: usize = 7;
 
-/// How many answers are asked for from page zero, more than most images have.
-const MOST: usize = 6144;
+/// How many answers are asked for from page zero: at 48 bits more than most images have, at 57, where
+/// the reference takes longer and no program prints them, not as many.
+fn most(width: Width) -> usize {
+    match width {
+        Width::Bits48 => 6144,
+        Width::Bits57 => 2048,
+    }
+}
 
 /// How many from other pages.
 const SOME: usize = 40;
@@ -32,10 +39,14 @@ const LONG: u64 = 1 << 20;
 const DRAWN: usize = 2;
 
 /// Numbers that are no address, or not that of a page.
-const REFUSED: [u64; 3] = [1, 1 << 47, u64::MAX];
+const REFUSED: [u64; 3] = [1, 1 << 56, u64::MAX];
+
+/// Refused as well at 48 bits, and the address of a page at 57.
+const BETWEEN: u64 = 1 << 47;
 
 /// Asks for lists from page zero, from drawn pages, from one that an answer leaves and from such
-/// that are refused, each time with other bytes to remember tables in. Gives the number of questions.
+/// that are refused, each time with other bytes to remember tables in, and with numbers that are no
+/// width. Gives the number of questions.
 pub fn compare(
     list: ListFunction,
     survey: &Survey,
@@ -44,8 +55,18 @@ pub fn compare(
     let mut questions = 0;
     for (place, most) in starts(survey, generator) {
         let expected = Expected::of(survey, place, most);
-        for (room, out) in expected.rooms() {
-            let asked = Asked { place, room, out };
+        let rooms = expected.rooms();
+        let own = rooms
+            .iter()
+            .map(|&rooms| (survey.image.width.bits(), rooms));
+        let none = NO_WIDTHS.map(|width| (width, *generator.pick(&rooms)));
+        for (width, (room, out)) in own.chain(none) {
+            let asked = Asked {
+                width,
+                place,
+                room,
+                out,
+            };
             let bytes = Bytes::drawn(survey, expected.spared <= MOST_PASSED, generator);
             expected.hold(list, survey, asked, &bytes)?;
             questions += 1;
@@ -56,21 +77,24 @@ pub fn compare(
 
 /// Places to begin at, with the most answers to ask for.
 fn starts(survey: &Survey, generator: &mut Generator) -> Vec<(u64, usize)> {
-    let mut starts = vec![(0, MOST)];
-    let drawn = (0..DRAWN).map(|_| page_address(generator.below(PAGES)));
-    starts.extend(drawn.chain(REFUSED).map(|place| (place, SOME)));
+    let width = survey.image.width;
+    let mut starts = vec![(0, most(width))];
+    let drawn = (0..DRAWN).map(|_| page_address(width, generator.below(width.pages())));
+    let others = drawn.chain(REFUSED).chain([BETWEEN]);
+    starts.extend(others.map(|place| (place, SOME)));
     if accept(survey.image).is_ok() {
         let skipped = generator.below(SOME as u64) as usize;
         let left = Lines::from(survey, 0).take(skipped + 1).last();
-        let next = left.and_then(Found::next_page);
-        starts.extend(next.map(|page| (page_address(page), SOME)));
+        let next = left.and_then(|found| found.next_page(width));
+        starts.extend(next.map(|page| (page_address(width, page), SOME)));
     }
     starts
 }
 
-/// A question: the place to begin at, the room for answers, and that of out.
+/// A question: the width, the place to begin at, the room for answers, and that of out.
 #[derive(Clone, Copy)]
 struct Asked {
+    width: u64,
     place: u64,
     room: usize,
     out: usize,
@@ -93,6 +117,7 @@ fn ask(list: ListFunction, image: &Image, asked: Asked, bytes: &Bytes) -> (Left,
     // words at `answers` and to `asked.out` words at `out`.
     let status = unsafe {
         list(
+            asked.width,
             place_of(&image.words),
             image.words.len(),
             image.base,
@@ -115,6 +140,7 @@ fn ask(list: ListFunction, image: &Image, asked: Asked, bytes: &Bytes) -> (Left,
 }
 
 struct Expected {
+    width: Width,
     /// The first page and the answers from it on, or the number of the refusal.
     list: Result<(u64, Vec<Found>), u8>,
     /// How many absent entries are passed, and how many more if no table is remembered.
@@ -125,17 +151,20 @@ struct Expected {
 impl Expected {
     /// Not more than `most` answers. The end is the last, unless an answer reaches the last page.
     fn of(survey: &Survey, place: u64, most: usize) -> Expected {
-        let first = accept(survey.image).and_then(|()| page_at(place));
+        let width = survey.image.width;
+        let first = accept(survey.image).and_then(|()| page_at(width, place));
         let (mut absent, mut spared) = (0, 0);
         let list = first.map(|page| {
             let mut lines = Lines::from(survey, page);
             let mut founds: Vec<_> = lines.by_ref().chain([Found::End]).take(most).collect();
-            let over = founds.iter().position(|found| found.next_page().is_none());
+            let mut nexts = founds.iter().map(|found| found.next_page(width));
+            let over = nexts.position(|next| next.is_none());
             founds.truncate(over.map_or(most, |last| last + 1));
             (absent, spared) = lines.passed();
             (page, founds)
         });
         Expected {
+            width,
             list,
             absent,
             spared,
@@ -161,7 +190,8 @@ impl Expected {
         let mut rooms = vec![0, WORDS - 1, WORDS, all, all + WORDS - 1];
         rooms.extend(all.checked_sub(1));
         rooms.extend(all.checked_sub(WORDS));
-        if founds.last().is_none_or(|last| last.next_page().is_none()) {
+        let next = |found: &Found| found.next_page(self.width);
+        if founds.last().and_then(next).is_none() {
             rooms.extend([all + WORDS, all + 2 * WORDS + 1]);
         }
         rooms.sort_unstable();
@@ -172,24 +202,24 @@ impl Expected {
     /// What a call with this room leaves.
     fn left(&self, asked: Asked) -> Left {
         let mut left = Left {
-            status: NO_ROOM,
+            status: ANSWERED,
             out: vec![PATTERN; OUT + BEHIND],
             answers: vec![PATTERN; asked.room + BEHIND],
         };
-        if asked.out < OUT {
-            return left;
-        }
         match &self.list {
+            _ if Width::of(asked.width).is_none() => left.status = NO_SUCH_CHOICE,
+            _ if asked.out < OUT => left.status = NO_ROOM,
             Err(number) => left.status = *number,
             Ok((first, founds)) => {
-                left.status = ANSWERED;
                 let fit = &founds[..founds.len().min(asked.room / WORDS)];
-                let next = fit.last().map_or(Some(*first), |found| found.next_page());
-                let words: Vec<_> = fit.iter().flat_map(|&found| found_words(found)).collect();
-                left.answers[..words.len()].copy_from_slice(&words);
+                let next = |found: &Found| found.next_page(self.width);
+                let next = fit.last().map_or(Some(*first), next);
+                let words = fit.iter().flat_map(|&found| found_words(found, self.width));
+                let answers = left.answers.iter_mut().zip(words);
+                answers.for_each(|(answer, word)| *answer = word);
                 left.out[0] = fit.len() as u64;
                 left.out[1] = u64::from(next.is_none());
-                left.out[2] = next.map_or(0, page_address);
+                left.out[2] = next.map_or(0, |page| page_address(self.width, page));
             }
         }
         left
@@ -207,6 +237,7 @@ impl Expected {
         let (library, bytes_left) = ask(list, survey.image, asked, bytes);
         let difference = |reference, library| Difference {
             function: "list",
+            width: asked.width,
             place: asked.place,
             reference,
             library,
@@ -242,11 +273,12 @@ fn summary(asked: Asked, left: &Left, other: &Left) -> String {
 pub(super) mod tests {
     use super::super::{lent, lent_to_write};
     use super::*;
-    use crate::worked;
+    use crate::worked::{self, five_levels};
 
     macro_rules! lists {
         ($($(#[$doc:meta])* $name:ident $list:expr;)*) => {
             $($(#[$doc])* pub unsafe extern "C" fn $name(
+                width: u64,
                 image: *const u64,
                 words: usize,
                 base: u64,
@@ -260,10 +292,12 @@ pub(super) mod tests {
                 len: usize,
             ) -> u8 {
                 let words = lent(image, words).to_vec();
-                let image = Image { words, base, root };
+                let walked = Width::of(width).unwrap_or(Width::Bits48);
+                let image = Image { width: walked, words, base, root };
                 let bytes = lent_to_write(empty_tables, tables);
                 let answers = lent_to_write(answers, room);
-                $list(&Survey::of(&image), page, bytes, answers, lent_to_write(out, len))
+                let out = lent_to_write(out, len);
+                $list(width, &image, page, &mut Lent { bytes, answers, out })
             })*
         };
     }
@@ -271,41 +305,65 @@ pub(super) mod tests {
     lists! {
         /// The reference under the convention of the library.
         own_list own;
-        without_end |survey: &_, page, bytes: &mut _, answers: &mut _, out: &mut [u64]| {
-            let status = own(survey, page, bytes, answers, out);
-            if status == ANSWERED && out[1] == 1 {
-                out[0] -= 1;
+        without_end |width, image: &_, page, lent: &mut Lent| {
+            let status = own(width, image, page, lent);
+            if status == ANSWERED && lent.out[1] == 1 {
+                lent.out[0] -= 1;
             }
             status
         };
-        forgetting_to_clear |survey: &_, page, bytes: &mut [u8], answers: &mut _, out: &mut _| {
-            own(survey, page, &mut vec![0; bytes.len()], answers, out)
+        forgetting_to_clear |width, image: &_, page, lent: &mut Lent| {
+            let bytes = lent.bytes.to_vec();
+            let status = own(width, image, page, lent);
+            lent.bytes.copy_from_slice(&bytes);
+            status
         };
-        clearing_when_refused |survey: &_, page, bytes: &mut [u8], answers: &mut _, out: &mut _| {
-            bytes.fill(0);
-            own(survey, page, bytes, answers, out)
+        clearing_when_refused |width, image: &_, page, lent: &mut Lent| {
+            lent.bytes.fill(0);
+            own(width, image, page, lent)
+        };
+        half_of_the_width |width: u64, image: &_, page, lent: &mut Lent| {
+            own(width % (1 << 32), image, page, lent)
+        };
+        room_before_the_width |width, image: &_, page, lent: &mut Lent| {
+            match lent.out.len() < OUT {
+                true => NO_ROOM,
+                false => own(width, image, page, lent),
+            }
+        };
+        refusals_before_the_width |width, image: &_, page, lent: &mut Lent| {
+            match accept(image) {
+                Err(number) if lent.out.len() >= OUT => number,
+                _ => own(width, image, page, lent),
+            }
         };
     }
 
-    fn own(
-        survey: &Survey,
-        place: u64,
-        bytes: &mut [u8],
-        answers: &mut [u64],
-        out: &mut [u64],
-    ) -> u8 {
-        let (room, len) = (answers.len(), out.len());
+    /// What a call may write.
+    struct Lent<'a> {
+        bytes: &'a mut [u8],
+        answers: &'a mut [u64],
+        out: &'a mut [u64],
+    }
+
+    fn own(width: u64, image: &Image, place: u64, lent: &mut Lent) -> u8 {
+        if Width::of(width).is_none() {
+            return NO_SUCH_CHOICE;
+        }
+        let survey = &Survey::of(image);
+        let (room, out) = (lent.answers.len(), lent.out.len());
         let asked = Asked {
+            width,
             place,
             room,
-            out: len,
+            out,
         };
         let most = (room / WORDS).max(1);
         let left = Expected::of(survey, place, most).left(asked);
-        answers.copy_from_slice(&left.answers[..room]);
-        out.copy_from_slice(&left.out[..len]);
+        lent.answers.copy_from_slice(&left.answers[..room]);
+        lent.out.copy_from_slice(&left.out[..out]);
         if left.status == ANSWERED {
-            remember(survey, bytes);
+            remember(survey, lent.bytes);
         }
         left.status
     }
@@ -313,7 +371,8 @@ pub(super) mod tests {
     /// Remembers all that is true.
     fn remember(survey: &Survey, bytes: &mut [u8]) {
         for (table, byte) in bytes.iter_mut().enumerate() {
-            let levels = (1..=4).filter(|&level| survey.holds_nothing(table, level));
+            let levels = 1..=survey.image.width.levels();
+            let levels = levels.filter(|&level| survey.holds_nothing(table, level));
             *byte = levels.map(|level| 1 << (level - 1)).sum();
         }
     }
@@ -327,6 +386,7 @@ pub(super) mod tests {
         let image = worked::case_l();
         let ask = |room| {
             let asked = Asked {
+                width: 48,
                 place: 0,
                 room,
                 out: OUT,
@@ -344,11 +404,28 @@ pub(super) mod tests {
 
     #[test]
     fn a_list_that_is_wrong_differs() {
-        let image = worked::case_l();
-        assert!(first_difference(own_list, &image).is_none());
-        for list in [without_end, forgetting_to_clear, clearing_when_refused] {
-            let difference = first_difference(list, &image).expect("a difference");
-            assert_eq!(difference.function, "list");
+        for image in [worked::case_l(), five_levels::case_l()] {
+            assert!(first_difference(own_list, &image).is_none());
+            let lists = [without_end, forgetting_to_clear, clearing_when_refused];
+            for list in lists
+                .into_iter()
+                .chain([half_of_the_width, room_before_the_width])
+            {
+                let difference = first_difference(list, &image).expect("a difference");
+                assert_eq!(difference.function, "list");
+            }
         }
+    }
+
+    #[test]
+    fn a_refusal_before_the_width_differs() {
+        let root = 1;
+        let image = Image {
+            root,
+            ..worked::case_l()
+        };
+        assert!(first_difference(own_list, &image).is_none());
+        let difference = first_difference(refusals_before_the_width, &image);
+        assert!(Width::of(difference.expect("a difference").width).is_none());
     }
 }

@@ -15,13 +15,16 @@ pub enum Entry {
 }
 
 impl Entry {
-    /// The checks in document 01's order.
+    /// The checks in document 01's order. Level 5 follows the rules of level 4 (document 02, Four).
+    #[inline(always)]
     pub fn read(image: &Image, entry: u64, level: u32) -> Entry {
         if !bit(entry, 0) {
             return Entry::Absent;
         }
         let large = bit(entry, 7) && [2, 3].contains(&level);
-        if bit(entry, 7) && level == 4 || large && entry % span_bytes(level) / (1 << 13) != 0 {
+        if bit(entry, 7) && [4, 5].contains(&level)
+            || large && entry % span_bytes(level) / (1 << 13) != 0
+        {
             return Entry::Reserved;
         }
         if large || level == 1 {
@@ -41,5 +44,5 @@ pub fn bit(entry: u64, number: u32) -> bool {
 
 /// The bytes that an entry of this level speaks for.
 pub fn span_bytes(level: u32) -> u64 {
-    1 << [12, 21, 30, 39][level as usize - 1]
+    1 << (12 + 9 * (level - 1))
 }

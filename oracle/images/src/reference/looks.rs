@@ -1,8 +1,9 @@
 //! One look at a page after the other, upward. Absent pages give no look.
 
 use super::survey::Survey;
-use super::{span_pages, translate_page, PageState, PAGES};
+use super::{span_pages, translate_page, PageState};
 use crate::image::PAGE_BYTES;
+use crate::width::Width;
 
 /// The pages of a piece of a 1 GiB page.
 const PIECE: u64 = 512;
@@ -50,6 +51,10 @@ impl<'a> Looks<'a> {
         }
     }
 
+    pub fn width(&self) -> Width {
+        self.survey.image.width
+    }
+
     fn settled(&mut self, state: PageState) -> u64 {
         let page = self.next;
         match state {
@@ -84,9 +89,10 @@ impl Iterator for Looks<'_> {
     type Item = Look;
 
     fn next(&mut self) -> Option<Look> {
-        while self.next < PAGES {
+        let image = self.survey.image;
+        while self.next < image.width.pages() {
             let page = self.next;
-            let state = translate_page(self.survey.image, page);
+            let state = translate_page(image, page);
             let pages = self.settled(state);
             self.next += pages;
             if !matches!(state, PageState::Absent { .. }) {

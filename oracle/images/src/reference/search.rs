@@ -2,8 +2,9 @@
 
 use super::looks::{Look, Looks};
 use super::survey::Survey;
-use super::{accept, page_at, span_pages, PageState, Rights, HALF};
+use super::{accept, page_at, span_pages, PageState, Rights};
 use crate::image::PAGE_BYTES;
+use crate::width::Width;
 
 #[derive(Clone, Copy, Debug, PartialEq, Eq)]
 pub enum Reason {
@@ -31,7 +32,7 @@ pub enum Found {
 /// What the search answers from the page at this address, or the number of its refusal.
 pub fn search(survey: &Survey, address: u64) -> Result<Found, u8> {
     accept(survey.image)?;
-    let page = page_at(address)?;
+    let page = page_at(survey.image.width, address)?;
     let first = Lines::from(survey, page).next();
     Ok(first.unwrap_or(Found::End))
 }
@@ -62,10 +63,11 @@ impl Iterator for Lines<'_> {
     type Item = Found;
 
     fn next(&mut self) -> Option<Found> {
+        let width = self.looks.width();
         let first = self.ahead.take().or_else(|| self.looks.next());
         let mut line = Found::of(first?);
         for look in self.looks.by_ref() {
-            if !line.goes_on_with(look) {
+            if !line.goes_on_with(look, width) {
                 self.ahead = Some(look);
                 break;
             }
@@ -104,7 +106,7 @@ impl Found {
 
     /// Whether the page looked at is the next of this run: just after it, in its half, with the
     /// frame after its last and its rights.
-    fn goes_on_with(self, look: Look) -> bool {
+    fn goes_on_with(self, look: Look, width: Width) -> bool {
         match (self, look.state) {
             (
                 Found::Run {
@@ -120,7 +122,7 @@ impl Found {
                 },
             ) => {
                 look.page == page + count
-                    && (look.page < HALF) == (page < HALF)
+                    && (look.page < width.half()) == (page < width.half())
                     && physical / PAGE_BYTES == frame + count
                     && theirs == rights
             }
@@ -136,12 +138,12 @@ impl Found {
 
     /// The number of the page after the last of the run, or of the span under the stop. After the
     /// last page there is none, and the search is over.
-    pub fn next_page(self) -> Option<u64> {
+    pub fn next_page(self, width: Width) -> Option<u64> {
         let next = match self {
             Found::End => return None,
             Found::Run { page, count, .. } => page + count,
             Found::Stop { page, level, .. } => (page / span_pages(level) + 1) * span_pages(level),
         };
-        (next < super::PAGES).then_some(next)
+        (next < width.pages()).then_some(next)
     }
 }

@@ -2,22 +2,23 @@
 //!
 //! A table, read as one of some level, holds nothing if all pages under it are absent: if each of its
 //! entries is absent or names a table of the image that, read one level below, holds nothing. So the
-//! tables are all read as such of level 1, then as such of level 2, up to level 4, each once for each
-//! level, however many entries name it. Looks leave out the pages under such a table.
+//! tables are all read as such of level 1, then as such of level 2, up to the level of the root, each
+//! once for each level, however many entries name it. Looks leave out the pages under such a table.
 
 #[cfg(test)]
 mod tests;
 
 use super::entry::Entry;
-use super::{accept, span_pages};
+use super::{accept, index, span_pages};
 use crate::image::{Image, PAGE_BYTES, TABLE};
+use crate::width::Width;
 
 /// An image with what is known of its tables.
 pub struct Survey<'a> {
     pub image: &'a Image,
     /// By the number of a table and its level less one: how many looks the pages under it take if
     /// only absent entries are passed at once. `None` if it holds something.
-    looks: Vec<[Option<u64>; 4]>,
+    looks: Vec<[Option<u64>; 5]>,
 }
 
 /// A table that holds nothing, on the way to a page.
@@ -34,8 +35,8 @@ impl<'a> Survey<'a> {
         let mut survey = Survey::unknown(image);
         if accept(image).is_ok() {
             let tables = image.words.len() / TABLE;
-            survey.looks = vec![[None; 4]; tables];
-            for level in 1..=4 {
+            survey.looks = vec![[None; 5]; tables];
+            for level in 1..=image.width.levels() {
                 for table in 0..tables {
                     survey.looks[table][level as usize - 1] = survey.read(table, level);
                 }
@@ -60,13 +61,21 @@ impl<'a> Survey<'a> {
 
     /// The highest table on the way to a page that holds nothing.
     pub fn on_the_way(&self, page: u64) -> Option<Empty> {
+        match self.image.width {
+            Width::Bits48 => self.highest(page, [4, 3, 2, 1]),
+            Width::Bits57 => self.highest(page, [5, 4, 3, 2, 1]),
+        }
+    }
+
+    /// The same, level by level.
+    fn highest<const N: usize>(&self, page: u64, levels: [u32; N]) -> Option<Empty> {
         let mut table = self.number(self.image.root);
-        for level in [4, 3, 2, 1] {
+        for level in levels {
             if let Some(looks) = self.looks_under(table, level) {
                 return Some(Empty { level, looks });
             }
-            let index = page / span_pages(level) % TABLE as u64;
-            let entry = self.image.words[TABLE * table + index as usize];
+            let index = index(page * PAGE_BYTES, level) as usize;
+            let entry = self.image.words[TABLE * table + index];
             match Entry::read(self.image, entry, level) {
                 Entry::Table(lower) => table = self.number(lower),
                 _ => break,

@@ -23,11 +23,25 @@ pub fn translate_all(function: Function, image: &Image, addresses: &[u64]) {
 }
 
 fn translate(function: Function, image: &Image, address: u64, out: &mut [u64; 4]) -> u8 {
-    let Image { words, base, root } = image;
+    let Image {
+        width,
+        words,
+        base,
+        root,
+    } = image;
     // SAFETY: the function reads the image's words and writes to the four of out.
     unsafe {
         let (lent, out) = (words.as_ptr(), out.as_mut_ptr());
-        function(lent, words.len(), *base, *root, address, out, 4)
+        function(
+            width.bits(),
+            lent,
+            words.len(),
+            *base,
+            *root,
+            address,
+            out,
+            4,
+        )
     }
 }
 
@@ -44,6 +58,7 @@ pub fn list(
     // SAFETY: the function reads the image's words and writes to empty, answers and out.
     let status = unsafe {
         function(
+            image.width.bits(),
             image.words.as_ptr(),
             image.words.len(),
             image.base,

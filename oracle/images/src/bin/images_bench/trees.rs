@@ -3,7 +3,7 @@
 use generator::Generator;
 use images::draft::{Draft, USER, WRITABLE};
 use images::image::{Image, PAGE_BYTES, TABLE};
-use images::reference::PAGES;
+use images::width::Width;
 
 const BASE: u64 = 0x10_0000;
 const FLAGS: u64 = WRITABLE | USER;
@@ -15,16 +15,16 @@ const APART: u64 = 7;
 const HOLE: u64 = 16;
 
 /// Free tables for so many of level 1.
-fn draft(lowest: u64) -> Draft {
-    let uppers = 2 + lowest.div_ceil(TABLE as u64);
+fn draft(width: Width, lowest: u64) -> Draft {
+    let uppers = u64::from(width.levels()) - 2 + lowest.div_ceil(TABLE as u64);
     let mut order: Vec<_> = (0..(lowest + uppers) as usize).collect();
     Generator::new(lowest).shuffle(&mut order);
-    Draft::with_order(BASE, &order)
+    Draft::with_order(width, BASE, &order)
 }
 
 /// Mapped throughout, in runs of so many pages.
-pub fn full(lowest: u64, run: u64) -> Image {
-    let mut draft = draft(lowest);
+pub fn full(width: Width, lowest: u64, run: u64) -> Image {
+    let mut draft = draft(width, lowest);
     let pages = lowest * TABLE as u64;
     for first in (0..pages).step_by(run as usize) {
         let frame = first + first / run * APART;
@@ -34,8 +34,8 @@ pub fn full(lowest: u64, run: u64) -> Image {
 }
 
 /// The same with 2 MiB pages, so many tables of level 2.
-pub fn large(tables: u64, run: u64) -> Image {
-    let mut draft = draft(tables);
+pub fn large(width: Width, tables: u64, run: u64) -> Image {
+    let mut draft = draft(width, tables);
     let span = TABLE as u64;
     for first in (0..tables * span).step_by(run as usize) {
         let frame = (first + first / run * APART) * span;
@@ -45,8 +45,8 @@ pub fn large(tables: u64, run: u64) -> Image {
 }
 
 /// One page in each table, at a drawn place.
-pub fn sparse(lowest: u64) -> Image {
-    let mut draft = draft(lowest);
+pub fn sparse(width: Width, lowest: u64) -> Image {
+    let mut draft = draft(width, lowest);
     let mut generator = Generator::new(lowest);
     for table in 0..lowest {
         let page = table * TABLE as u64 + generator.below(TABLE as u64);
@@ -56,8 +56,8 @@ pub fn sparse(lowest: u64) -> Image {
 }
 
 /// Mapped but for the last of every 16 pages.
-pub fn holed(lowest: u64) -> Image {
-    let mut draft = draft(lowest);
+pub fn holed(width: Width, lowest: u64) -> Image {
+    let mut draft = draft(width, lowest);
     for first in (0..lowest * TABLE as u64).step_by(HOLE as usize) {
         draft.map(first, 1, HOLE - 1, first, FLAGS);
     }
@@ -65,14 +65,14 @@ pub fn holed(lowest: u64) -> Image {
 }
 
 /// Addresses in `holed`, of mapped pages, or with one of eight absent at a drawn level.
-pub fn addresses(lowest: u64, count: usize, with_absent: bool) -> Vec<u64> {
+pub fn addresses(width: Width, lowest: u64, count: usize, with_absent: bool) -> Vec<u64> {
     let mut generator = Generator::new(lowest);
     let pages = lowest * TABLE as u64;
     let address = |_| {
         let first = generator.below(pages / HOLE) * HOLE;
         let page = match (with_absent, generator.below(16)) {
             (true, 0) => first + HOLE - 1,
-            (true, 1) => generator.below(PAGES / 2),
+            (true, 1) => generator.below(width.half()),
             _ => first + generator.below(HOLE - 1),
         };
         page * PAGE_BYTES + generator.below(PAGE_BYTES)
