@@ -21,4 +21,5 @@ as-before =
       page-2-mib = λ p4 p3 p2. refl;
       page-1-gib = λ p4 p3. refl;
       list = λ l answers out. refl;
+      bytes = λ image base root a out before after l. l.at-width refl;
     }

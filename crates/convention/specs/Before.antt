@@ -7,7 +7,7 @@ use Rattle.page.specs.Page.{page_index, page_level_index, page_of_indices, from_
 use Rattle.paging.specs.List.{Listing}
 use Rattle.status.specs.Status.{no_such_choice}
 use Rattle.convention.specs.Choice.{at_width, levels_with, at_level}
-use Rattle.convention.specs.Images.{leaves_list, leaves_list_at}
+use Rattle.convention.specs.Images.{leaves_list, leaves_list_at, LeftBytes, LeftBytesAt}
 
 -- document 01: "level 1 to 4"
 abbrev pub at_level_before : ℕ → Outcome (List ℕ) → Outcome (List ℕ)
@@ -24,4 +24,6 @@ pub record AsBefore : Type 0 where
   pub page-4-kib : (p4 p3 p2 p1 : ℕ) → page_of_indices 48 (levels_with 48) 0 p4 p3 p2 p1 0x1000 ≡ from_indices p4 p3 p2 p1
   pub page-2-mib : (p4 p3 p2 : ℕ) → page_of_indices 48 (levels_with 48) 0 p4 p3 p2 0 0x20_0000 ≡ from_indices_2mib p4 p3 p2
   pub page-1-gib : (p4 p3 : ℕ) → page_of_indices 48 (levels_with 48) 0 p4 p3 0 0 0x4000_0000 ≡ from_indices_1gib p4 p3
+  -- a list, and what is promised of the bytes lent to it
   pub list : (l : Listing) (answers out : List ℕ) → leaves_list_at 48 l answers out ≡ leaves_list l answers out
+  pub bytes : (image : List ℕ) (base root a : ℕ) (out before after : List ℕ) → LeftBytesAt 48 image base root a out before after → LeftBytes 48 image base root a out before after
