@@ -3,7 +3,7 @@ use Prim.Native.Nat.{ℕ, ◌+◌, ◌-◌, ◌<◌, ◌≤◌, min}
 use mathlib.Core.Path.{◌≡◌, refl, ap, ◌∙◌}
 use mathlib.Core.Bool.{Bool, true, false, cond, ◌&&◌}
 use mathlib.Core.List.{List, [], ◌∷◌}
-use mathlib.Core.Option.{some}
+use mathlib.Core.Option.{Option, none, some}
 use native.Mathlib.Omega.{arith}
 use borrow.Author.Tests.{leb-true}
 use lib.Dec.{leb}
@@ -29,15 +29,26 @@ place_inside (s ∷ segments) first a p e = go (leb s.base a) (leb (word_index s
     go true false h k ih = omega (arith, ih k)
     go false c h k ih = omega (arith, ih k)
 
--- the place by the first segment: in it, or in those behind it
+-- the place in the first segment, or in those behind it: by the place in the first one alone
 module _ (first : ℕ) (s : Segment) (segments : List Segment) (a : ℕ) where
-  pub place_here : inside_of s a ≡ true → place_from first (s ∷ segments) a ≡ some (first + word_index s.base a)
-  unfolding place_from
-  place_here h = ap (λ (b : Bool). cond b (some (first + word_index s.base a)) (place_from (first + s.words) segments a)) h
+  abbrev rest : Option ℕ
+  rest = place_from (first + s.words) segments a
 
-  pub place-behind : inside_of s a ≡ false → place_from first (s ∷ segments) a ≡ place_from (first + s.words) segments a
+  here : (b : Bool) (n : ℕ) → some n ≡ cond b (some (0 + word_index s.base a)) none → cond b (some (first + word_index s.base a)) rest ≡ some (first + n)
+  here true n h = let e : 0 + word_index s.base a ≡ n = cc in ap some (omega (arith, e))
+  here false n h = absurd (let o : ◌≡◌ {A = ℕ} 0 1 = cc in omega arith)
+
+  behind : (b : Bool) → none ≡ cond b (some (0 + word_index s.base a)) none → cond b (some (first + word_index s.base a)) rest ≡ rest
+  behind true h = absurd (let o : ◌≡◌ {A = ℕ} 0 1 = cc in omega arith)
+  behind false h = refl
+
+  pub place_by_first : (n : ℕ) → some n ≡ place_from 0 (s ∷ []) a → place_from first (s ∷ segments) a ≡ some (first + n)
   unfolding place_from
-  place-behind h = ap (λ (b : Bool). cond b (some (first + word_index s.base a)) (place_from (first + s.words) segments a)) h
+  place_by_first n h = here (inside_of s a) n h
+
+  pub place_by_rest : none ≡ place_from 0 (s ∷ []) a → place_from first (s ∷ segments) a ≡ rest
+  unfolding place_from
+  place_by_rest h = behind (inside_of s a) h
 
 -- the segments of words that are all lent are reached whole
 pub reaching-all : (segments : List Segment) (lent : ℕ) → total segments ≤ lent → reaching lent segments ≡ segments
