@@ -84,6 +84,7 @@ fn pass_rest(
 }
 
 // Goes over the pages below the root from one on, and answers the page that it comes to.
+#[inline(always)]
 pub(crate) fn pass_root(
     words: &[u64],
     segments: &[Segment],
