@@ -2,11 +2,15 @@
 //! names beside them, for the operations that are here. They hold the model to the documents, before it
 //! is held against the Rust and the port.
 
+mod each_width;
 mod frames;
 mod width_48;
 mod width_57;
 
-use crate::answer::{Answer, ANSWERED, DRAW_MEETS_GAP};
+use crate::answer::{
+    Answer, ANSWERED, DRAW_MEETS_GAP, INDEX_TOO_LARGE, NONE, NOT_CANONICAL, NO_SUCH_CHOICE,
+    OVERFLOW, RESULT_NOT_CANONICAL,
+};
 use crate::operation::Operation;
 
 /// The case, the operation, its arguments and the answer.
