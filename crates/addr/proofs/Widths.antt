@@ -5,14 +5,14 @@ use lib.Dec.{ltb, leb, lit<}
 use native.Mathlib.Omega.{arith}
 use borrow.Author.Tests.{lt-ltb}
 use Rattle.laws.specs.Width.{IsWidth, PageWidth, half, first_high, canonical}
-use Rattle.laws.proofs.Width.{canonical-low, canonical-from}
+use Rattle.laws.proofs.Width.{width-48, width-57, canonical-low, canonical-from}
 use Rattle.addr.specs.declared.width.Width.{Width}
 use Rattle.addr.specs.declared.width.Width.TheVariants.{Bits48, Bits57}
 use Rattle.addr.specs.Widths.{width_of, levels_of}
 
 pub widths : (x : Width) → IsWidth (width_of x)
-widths Bits48 = record { above = lit< tt; below = lit< tt }
-widths Bits57 = record { above = lit< tt; below = lit< tt }
+widths Bits48 = width-48
+widths Bits57 = width-57
 
 -- a page of any size is much less than a half
 pub wide : (x : Width) → 47 < width_of x

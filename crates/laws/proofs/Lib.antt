@@ -2,6 +2,7 @@ pub mod Bits
 pub mod Cases
 pub mod Width
 pub mod Form
+pub mod SignExtension
 pub mod Steps
 pub mod Displacement
 pub mod Align

@@ -4,14 +4,23 @@ use mathlib.Core.Logic.{◌↔◌}
 use mathlib.Core.Bool.{true, false}
 use Prim.Native.Nat.{ℕ, zero, suc, ◌+◌, ◌-◌, ◌*◌, ◌/◌, ◌%◌, ◌^◌, ◌≤◌, ◌<◌}
 use native.Mathlib.Omega.{arith}
-use native.Mathlib.Decide.{dec_lt}
+use native.Mathlib.Decide.{dec_lt, ℕ_discrete}
 use native.Mathlib.Nat.{zero-div, zero-mod, div-eq_of_lt, div-eq_of_lt-le, mod-lt, mod-eq_of_lt, add-mul-mod_self_right, add-zero, add-suc, zero-add, zero-mul, one-mul, suc-mul, pow-suc}
 use native.Mathlib.Numerals.{add-one}
-use lib.Dec.{leb}
+use lib.Dec.{leb, lit<}
 use lib.Pow.{pow_pos, pow_mono, pow-add, field, high_ones, mod-pow-add}
+use lib.Bits.{bit_and}
+use Rattle.std.proofs.lemmas.Nat.Bits.{and_pow}
 use borrow.Author.Tests.{eq-eqb, ne_eqb, eqb-true, le-leb, lt-leb}
 use Rattle.laws.specs.Width.{IsWidth, bit, low, half, sign_extend, canonical, CopiesBit, InGap}
 use Rattle.laws.proofs.Cases.{by_cases}
+
+-- 48 bits and 57 are widths
+pub width-48 : IsWidth 48
+width-48 = record { above = lit< tt; below = lit< tt }
+
+pub width-57 : IsWidth 57
+width-57 = record { above = lit< tt; below = lit< tt }
 
 -- the sizes of a width: two halves are the whole, which is at most 2^63
 pub record Sizes (w : ℕ) : Type 0 where
@@ -25,6 +34,35 @@ sizes w v =
     let p : 2 ^ (w - 1 + 1) ≡ 2 ^ (w - 1) * 2 ^ 1 = pow-add 2 (w - 1) 1 in
     record { whole = omega (arith, rw e at p); some = pow_pos (w - 1); most = pow_mono {i = w} {j = 63} (omega arith) }
 
+-- the two cases of sign extension
+module _ (w a : ℕ) where
+  pub bit_clear : bit (w - 1) a ≡ 0 → sign_extend w a ≡ low w a
+  unfolding sign_extend
+  bit_clear e = simp (eq-eqb (bit (w - 1) a) 0 e)
+
+  pub bit_set : bit (w - 1) a ≡ 1 → sign_extend w a ≡ low w a + (2 ^ 64 - 2 ^ w)
+  unfolding sign_extend
+  bit_set e = simp (ne_eqb (bit (w - 1) a) 0 (λ z. omega arith))
+
+  -- the bit is clear exactly if a mask of it leaves nothing
+  masked : (bit_and a (half w) ≡ 0) ↔ (bit (w - 1) a ≡ 0)
+  masked = (λ m. by_cases (ℕ_discrete (bit (w - 1) a) 0) (λ z. z) (other m), λ z. rw (left, z) (zero-mul (half w)))
+    where
+      left : bit_and a (half w) ≡ bit (w - 1) a * half w
+      left = and_pow a (w - 1)
+
+      other : bit_and a (half w) ≡ 0 → (bit (w - 1) a ≡ 0 → ⊥) → bit (w - 1) a ≡ 0
+      other m n =
+          let o : bit (w - 1) a ≡ 1 = omega arith in
+          let p : 0 < half w = pow_pos (w - 1) in
+          omega (arith, rw o at left)
+
+  pub masked_clear : bit_and a (half w) ≡ 0 → sign_extend w a ≡ low w a
+  masked_clear m = bit_clear (masked.0 m)
+
+  pub masked_set : (bit_and a (half w) ≡ 0 → ⊥) → sign_extend w a ≡ low w a + (2 ^ 64 - 2 ^ w)
+  masked_set n = let s : bit (w - 1) a ≡ 0 → ⊥ = λ z. n (masked.1 z) in bit_set (omega arith)
+
 module _ (w : ℕ) (v : IsWidth w) where
   pub low-lt : (a : ℕ) → low w a < 2 ^ w
   low-lt a = mod-lt a (pow_pos w)
@@ -36,19 +74,15 @@ module _ (w : ℕ) (v : IsWidth w) where
       let f : a % 2 ^ (1 + (w - 1)) / 2 ^ (w - 1) ≡ a / 2 ^ (w - 1) % 2 ^ 1 = field a 1 (w - 1) in
       sym (rw e at f)
 
-  -- the two cases of sign extension
+  -- the cases by the halves
   pub sign_clear : (a : ℕ) → low w a < half w → sign_extend w a ≡ low w a
-  unfolding sign_extend
-  sign_clear a h = simp (eq-eqb (bit (w - 1) a) 0 (bit-low a ∙ div-eq_of_lt h))
+  sign_clear a h = bit_clear w a (bit-low a ∙ div-eq_of_lt h)
 
   pub sign_set : (a : ℕ) → half w ≤ low w a → sign_extend w a ≡ low w a + (2 ^ 64 - 2 ^ w)
-  unfolding sign_extend
   sign_set a h =
       let s = sizes w v in
       let l = low-lt a in
-      let q : low w a / half w ≡ 1 = div-eq_of_lt-le (half w) (omega arith) (omega arith) in
-      let n : bit (w - 1) a ≡ 0 → ⊥ = λ z. omega (arith, bit-low a) in
-      simp (ne_eqb (bit (w - 1) a) 0 n)
+      bit_set w a (bit-low a ∙ div-eq_of_lt-le (half w) (omega arith) (omega arith))
 
   -- the halves of the low parts, for a proof that takes each by itself
   pub by-half : {C : Type 0} (a : ℕ) → (low w a < half w → C) → (half w ≤ low w a → C) → C

@@ -1,5 +1,6 @@
 pub mod Width
 pub mod Form
+pub mod SignExtension
 pub mod Steps
 pub mod Stepping
 pub mod Align

@@ -24,8 +24,8 @@ low w a = a % 2 ^ w
 abbrev pub half : ℕ → ℕ
 half w = 2 ^ (w - 1)
 
--- "virtual copies bit 47 upward" (`new_truncate`), as two cases: the number modulo 2^w if the bit is clear, that plus 2^64 − 2^w if it is set.
--- Document 02, request Four: "bits 57 to 63 copy bit 56"
+-- "virtual copies bit 47 upward" (`new_truncate`), as two cases, document 02, request Five: "the number modulo 2^48 if the bit is clear, that plus 2^64 − 2^48 if it is set";
+-- "bits 57 to 63 copy bit 56" (request Four)
 unfoldable pub sign_extend : ℕ → ℕ → ℕ
 sign_extend w a = cond (eqb (bit (w - 1) a) 0) (low w a) (low w a + (2 ^ 64 - 2 ^ w))
 
