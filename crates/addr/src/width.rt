@@ -98,16 +98,19 @@ impl Width {
         addr & (self.size() - 1)
     }
 
-    // The number with the width's top bit copied upward.
-    #[tactic(auto, using(crate::proofs::Widths::widths, laws::proofs::Width::sizes, laws::proofs::Width::sign_clear, laws::proofs::Width::sign_set))]
+    // The number with bit w − 1 copied upward: the number modulo 2^w if the bit is clear, that plus
+    // 2^64 − 2^w if it is set.
+    #[tactic(auto, using(crate::proofs::Widths::widths, laws::proofs::Width::sizes, laws::proofs::Width::masked_clear, laws::proofs::Width::masked_set))]
     pub fn truncate(self, addr: u64) -> u64
         ensures { result ≡ sign_extend (width_of self) addr }
     {
         let size = self.size();
-        let low = self.low(addr);
-        if low < size / 2 {
+        let low = addr % size;
+        let copied_bit = addr & (size / 2);
+        if copied_bit == 0 {
             low
         } else {
+            // 2^64 is no u64: u64::MAX is one less
             low + (u64::MAX - (size - 1))
         }
     }
