@@ -156,6 +156,11 @@ const fn has_not(operation: &'static str, args: &'static [u64], status: u8) -> C
     ends("request Four", operation, args, status)
 }
 
+/// A width and a number of request Five, with its sign extension.
+const fn extended(args: &'static [u64], address: &'static [u64]) -> Case {
+    gives("request Five", TRUNCATE, args, address)
+}
+
 #[cfg(test)]
 mod tests {
     use super::all;

@@ -111,6 +111,13 @@ macro_rules! cases {
             counted(INCLUSIVE_LEN, &FROM_HIGH_TO_LOW, &[0]),
             ends("K", NTH, &PAST_CASE_K, DRAW_MEETS_GAP),
             ends("K", NTH_BACK, &PAST_CASE_K, DRAW_MEETS_GAP),
+            // All bits set but the one that is copied; those above it alone; it and those below; it and bit 63;
+            // all.
+            extended(&[WIDTH, LAST - (1 << (WIDTH - 1))], &[LAST_LOW]),
+            extended(&[WIDTH, LAST << WIDTH], &[0]),
+            extended(&[WIDTH, (1 << WIDTH) - 1], &[LAST]),
+            extended(&[WIDTH, (1 << 63) + (1 << (WIDTH - 1))], &[FIRST_HIGH]),
+            extended(&[WIDTH, LAST], &[LAST]),
             $($own),*
         ];
     };
