@@ -1,7 +1,7 @@
 -- What the cases of the code's progress stand for.
 use Rattle.mapping.specs.Pages.{Reason, reserved, outside}
 use Rattle.mapping.specs.Pass.{Progress, unfound, stopped, running}
-use Rattle.walk.specs.Rights.{rights_held}
+use Rattle.paging.specs.Packed.{rights_over}
 use Rattle.found.specs.declared.progress.StopReason.{StopReason}
 use Rattle.found.specs.declared.progress.StopReason.TheVariants as reason
 use Rattle.found.specs.declared.progress.Progress as code
@@ -13,5 +13,5 @@ reason_of reason.Outside = outside
 
 abbrev pub progress_of : code.Progress → Progress
 progress_of progress.Unfound = unfound
-progress_of (progress.Running q g h) = running q g (rights_held h)
+progress_of (progress.Running q g b) = running q g (rights_over b)
 progress_of (progress.Stopped q l r) = stopped q l (reason_of r)

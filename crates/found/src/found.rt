@@ -49,7 +49,7 @@ impl Progress {
                 page,
                 frame,
                 count: reached.min(half_end(page, pages)).saturating_sub(page),
-                rights,
+                rights: Rights::over(rights),
             },
             Progress::Stopped {
                 page,

@@ -1,5 +1,6 @@
 // What a search has found on its way.
-ghost use Rattle.std.specs.Prelude.{◌≡◌};
+ghost use Rattle.std.specs.Prelude.{◌≡◌, eqb};
+ghost use Rattle.paging.specs.Packed.{rights_bits, rights_over};
 ghost use Rattle.paging.specs.Progress.{Halts, Takes, finds_nothing};
 ghost use Rattle.walk.specs.Rights.{rights_held};
 ghost use Rattle.found.specs.Progress.{progress_of, reason_of};
@@ -18,11 +19,12 @@ pub enum StopReason {
 pub enum Progress {
     // Absent pages alone.
     Unfound,
-    // A run, by its first page and frame.
+    // A run, by its first page and frame. Its rights are a word, as those of a walk are, with no other bits: an entry is then told to belong to it by one test, where three
+    // truth values take three.
     Running {
         page: u64,
         frame: u64,
-        rights: Rights,
+        rights: u64,
     },
     // A broken page, and the level of the entry that breaks it.
     Stopped {
@@ -30,6 +32,27 @@ pub enum Progress {
         level: u64,
         reason: StopReason,
     },
+}
+
+// The bits of a walk's word that say its rights.
+const RIGHTS: u64 = 0x8000_0000_0000_0006;
+
+// Whether two words of a walk say the same rights: the bits 1, 2 and 63 do, so this is one test of a word.
+#[tactic(auto, using(paging::proofs::RightsBits::same_bits))]
+fn say_same(one: u64, other: u64) -> bool
+    ensures { result ≡ eqb (rights_bits (rights_over one)) (rights_bits (rights_over other)) }
+{
+    (one >> 1) & 3 == (other >> 1) & 3 && one >> 63 == other >> 63
+}
+
+// A word that says the rights, as those of a walk do.
+fn word_of(rights: Rights) -> u64
+    ensures { rights_over result ≡ rights_held rights }
+{
+    let writable = u64::from(rights.writable);
+    let user = u64::from(rights.user);
+    let execute = u64::from(!rights.no_execute);
+    (writable << 1) + (user << 2) + (execute << 63)
 }
 
 impl Progress {
@@ -57,20 +80,31 @@ impl Progress {
     pub fn take(&mut self, page: u64, frame: u64, rights: Rights) -> bool
         ensures { Takes page frame (rights_held rights) (progress_of self.old) (progress_of self.new) result }
     {
+        self.take_by_bits(page, frame, word_of(rights))
+    }
+
+    // The same by the bits that all words of a walk have, as `Rights::over` reads them.
+    #[tactic(auto, using(paging::proofs::RightsBits::kept_bits))]
+    pub fn take_by_bits(&mut self, page: u64, frame: u64, all: u64) -> bool
+        ensures { Takes page frame (rights_over all) (progress_of self.old) (progress_of self.new) result }
+    {
         match *self {
             Progress::Unfound => {
                 *self = Progress::Running {
                     page,
                     frame,
-                    rights,
+                    rights: all & RIGHTS,
                 };
                 true
             }
             Progress::Running {
                 page: first,
                 frame: start,
-                rights: held,
-            } => held == rights && frame.checked_sub(start) == Some(page.saturating_sub(first)),
+                rights,
+            } => {
+                say_same(rights, all)
+                    && frame.checked_sub(start) == Some(page.saturating_sub(first))
+            }
             Progress::Stopped { .. } => false,
         }
     }

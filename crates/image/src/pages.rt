@@ -5,7 +5,7 @@ ghost use Rattle.paging.specs.Pages.{Alike, PassesPages};
 ghost use Rattle.paging.specs.Progress.{GoesOn};
 
 use found::{Progress, StopReason};
-use walk::{Rights, TABLE_WORDS, allows, frame_in, is_present};
+use walk::{TABLE_WORDS, allows, frame_in, is_present};
 
 // The bits of an entry of level 1 that are read: present, the rights and the frame.
 const READ: u64 = 0x800f_ffff_ffff_f007;
@@ -53,8 +53,7 @@ pub(crate) fn pass_pages(
                 progress.stop(page, 1, StopReason::Reserved);
                 return page;
             }
-            let own = Rights::over(rights & allows(word));
-            if !progress.take(page, frame_in(word), own) {
+            if !progress.take_by_bits(page, frame_in(word), rights & allows(word)) {
                 return page;
             }
             i = alike(table, i, READ, 0x1000, reserved);

@@ -12,7 +12,7 @@ use crate::pages::pass_pages;
 use crate::span::span_end;
 use empty_tables::{is_empty, remember_whole};
 use found::{Progress, StopReason};
-use walk::{Look, Rights, Segment, TABLE_WORDS, allows, look_word, table_place, within_span};
+use walk::{Look, Segment, TABLE_WORDS, allows, look_word, table_place, within_span};
 
 // A table on the way down: its place in the lent words, and the bits that every word above it has.
 #[derive(Clone, Copy)]
@@ -73,8 +73,7 @@ fn step_at(
         }
         Look::Leaf(first, word) => {
             let frame = first + within_span(page, below);
-            let own = Rights::over(table.rights & allows(word));
-            if progress.take(page, frame, own) {
+            if progress.take_by_bits(page, frame, table.rights & allows(word)) {
                 Step::Pass
             } else {
                 Step::Halt

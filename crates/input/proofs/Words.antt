@@ -31,19 +31,28 @@ first_chunks-get k zero i bytes h = absurd (omega arith)
 first_chunks-get k (suc n) zero bytes h = let e : k * 0 ≡ 0 = omega arith in rw e
 first_chunks-get k (suc n) (suc i) bytes h = first_chunks-get k n i (drop k bytes) (omega arith) ∙ ap (take k) (drop-drop (k * i) k bytes ∙ ap (λ (j : ℕ). drop j bytes) (omega arith))
 
-pub word_stored : (bytes out : List ℕ) {rest : List ℕ} {words : List (List ℕ)} (count n w : ℕ)
+-- the chunk at a place, of those that are read
+pub chunk_at : (rest : List ℕ) (words : List (List ℕ)) (count n : ℕ)
+    → n < length (take count words)
+    → length words ≡ length rest / word_bytes
+    → words ≡ first_chunks word_bytes (length rest / word_bytes) rest
+    → get_or (take count words) n [] ≡ take word_bytes (drop (word_bytes * n) rest)
+chunk_at rest words count n below long chunks =
+    get_or-take count words n [] (omega (arith, length-take count words))
+    ∙ ap (λ (l : List (List ℕ)). get_or l n []) chunks
+    ∙ first_chunks-get word_bytes (length rest / word_bytes) n rest (omega (arith, length-take count words))
+
+-- the number of eight bytes stored, where these are a word's
+pub word_stored : (bytes out rest read : List ℕ) (words : List (List ℕ)) (count n w : ℕ)
     → n < length (take count words)
     → count ≡ min (length words) (length out)
     → length words ≡ length rest / word_bytes
-    → words ≡ first_chunks word_bytes (length rest / word_bytes) rest
     → rest ≡ drop header_bytes bytes
-    → w ≡ from_be_bytes w64 (get_or (take count words) n [])
+    → w ≡ from_be_bytes w64 read
+    → read ≡ take word_bytes (drop (word_bytes * n) rest)
     → set (words_from bytes header_bytes n ++ drop n out) n w ≡ words_from bytes header_bytes (n + 1) ++ drop (n + 1) out
-word_stored bytes out {rest} {words} count n w below both long chunks behind read =
-    let within : n < count = omega (arith, length-take count words) in
-    let chunk : get_or (take count words) n [] ≡ take word_bytes (drop (word_bytes * n) rest) =
-    get_or-take count words n [] within ∙ ap (λ (l : List (List ℕ)). get_or l n []) chunks ∙ first_chunks-get word_bytes (length rest / word_bytes) n rest (omega (arith, length-take count words)) in
+word_stored bytes out rest read words count n w below both long behind number chunk =
     let whole : word_bytes ≤ length (drop (word_bytes * n) rest) = simp length-drop (omega (arith, length-take count words)) in
     let place : drop (word_bytes * n) rest ≡ drop (header_bytes + word_bytes * n) bytes = rw (behind, drop-drop) (ap (λ (j : ℕ). drop j bytes) (omega arith)) in
-    let value : w ≡ field bytes (header_bytes + word_bytes * n) word_bytes = read ∙ ap (from_be_bytes w64) chunk ∙ eight_bytes _ (length-take-le word_bytes (drop (word_bytes * n) rest) whole) ∙ ap (λ (l : List ℕ). big_endian (take word_bytes l)) place in
-    rw value (stored bytes out header_bytes n (omega arith))
+    let value : w ≡ field bytes (header_bytes + word_bytes * n) word_bytes = number ∙ ap (from_be_bytes w64) chunk ∙ eight_bytes _ (length-take-le word_bytes (drop (word_bytes * n) rest) whole) ∙ ap (λ (l : List ℕ). big_endian (take word_bytes l)) place in
+    rw value (stored bytes out header_bytes n (omega (arith, length-take count words)))

@@ -55,7 +55,7 @@ fn split_header(bytes: &[u8]) -> Option<Header>
 }
 
 // Puts the words behind the header into out, as many as there are and have room, and answers how many.
-#[tactic(auto, unfolding(crate::specs::Input::words_from))]
+#[tactic(auto, using(crate::proofs::Words::chunk_at, crate::proofs::Words::word_stored), unfolding(crate::specs::Input::words_from))]
 pub fn read_words(bytes: &[u8], out: &mut [u64]) -> u64
     ensures value { result ≡ min ((length bytes.now - header_bytes) / word_bytes) (length out.old) }
     ensures out_after { out.new ≡ words_from bytes.now header_bytes result ++ drop result out.old }

@@ -29,6 +29,16 @@ place_inside (s ∷ segments) first a p e = go (leb s.base a) (leb (word_index s
     go true false h k ih = omega (arith, ih k)
     go false c h k ih = omega (arith, ih k)
 
+-- the place by the first segment: in it, or in those behind it
+module _ (first : ℕ) (s : Segment) (segments : List Segment) (a : ℕ) where
+  pub place_here : inside_of s a ≡ true → place_from first (s ∷ segments) a ≡ some (first + word_index s.base a)
+  unfolding place_from
+  place_here h = ap (λ (b : Bool). cond b (some (first + word_index s.base a)) (place_from (first + s.words) segments a)) h
+
+  pub place-behind : inside_of s a ≡ false → place_from first (s ∷ segments) a ≡ place_from (first + s.words) segments a
+  unfolding place_from
+  place-behind h = ap (λ (b : Bool). cond b (some (first + word_index s.base a)) (place_from (first + s.words) segments a)) h
+
 -- the place in the first segment, or in those behind it: by the place in the first one alone
 module _ (first : ℕ) (s : Segment) (segments : List Segment) (a : ℕ) where
   abbrev rest : Option ℕ

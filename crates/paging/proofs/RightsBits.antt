@@ -1,11 +1,14 @@
 -- Rights by the bits that all words have, and as three bits.
-use Prim.Native.Nat.{ℕ, zero, suc, ◌+◌, ◌*◌, ◌/◌, ◌%◌, ◌^◌, ◌<◌}
+use Prim.Native.Nat.{ℕ, zero, suc, ◌+◌, ◌-◌, ◌*◌, ◌/◌, ◌%◌, ◌^◌, ◌<◌}
 use mathlib.Core.Path.{◌≡◌, refl}
-use mathlib.Core.Bool.{Bool, true, false, cond, not}
+use mathlib.Core.Bool.{Bool, true, false, cond, not, ◌&&◌}
 use native.Mathlib.Omega.{arith}
 use native.Mathlib.Nat.{mod-lt}
+use native.Mathlib.Decide.{ℕ_discrete}
+use borrow.Author.Tests.{eq-eqb, ne_eqb}
 use lib.Dec.{lit<, eqb}
-use lib.Bits.{bit_and, bit_xor, and_shr, and_mod, xor_shr, xor_mod, xor_zero_r}
+use lib.Bits.{bit_and, bit_xor, and_mask, and_shr, and_mod, xor_shr, xor_mod, xor_zero_r}
+use Rattle.laws.proofs.Cases.{by_cases}
 use Rattle.mapping.specs.Pages.{Rights, rights}
 use Rattle.mapping.specs.Walk.{joined}
 use Rattle.paging.specs.Entry.{set, rights_of}
@@ -73,3 +76,58 @@ bits-lt (rights w u x) = go w u x
 
     go : (w u x : Bool) → digit w + 2 * digit u + 4 * digit x < 8
     go w u x = omega (arith, one w, one u, one x)
+
+-- a bit as a number
+pub digit_set : (k v : ℕ) → digit (set k v) ≡ v / 2 ^ k % 2
+digit_set k v = go (v / 2 ^ k % 2) (mod-lt (v / 2 ^ k) (lit< tt))
+  where
+    go : (x : ℕ) → x < 2 → digit (eqb x 1) ≡ x
+    go zero p = refl
+    go (suc zero) p = refl
+    go (suc (suc x)) p = absurd (omega arith)
+
+pub digit_clear : (k v : ℕ) → digit (not (set k v)) ≡ 1 - v / 2 ^ k % 2
+digit_clear k v = go (v / 2 ^ k % 2) (mod-lt (v / 2 ^ k) (lit< tt))
+  where
+    go : (x : ℕ) → x < 2 → digit (not (eqb x 1)) ≡ 1 - x
+    go zero p = refl
+    go (suc zero) p = refl
+    go (suc (suc x)) p = absurd (omega arith)
+
+over-bits : (a : ℕ) → a < 2 ^ 64 → rights_bits (rights_over a) ≡ a / 2 % 4 + 4 * (1 - a / 2 ^ 63)
+over-bits a h =
+    let top : a / 2 ^ 63 % 2 ≡ a / 2 ^ 63 = omega arith in
+    rw (digit_set 1 a, digit_set 2 a, digit_clear 63 a, top) (omega arith)
+
+-- two words say the same rights exactly if they have the same bits 1, 2 and 63
+pub same_bits : (a b : ℕ) → a < 2 ^ 64 → b < 2 ^ 64
+    → (eqb (bit_and (a / 2) 3) (bit_and (b / 2) 3) && eqb (a / 2 ^ 63) (b / 2 ^ 63)) ≡ eqb (rights_bits (rights_over a)) (rights_bits (rights_over b))
+same_bits a b h k =
+    rw (and_mask (a / 2) 2, and_mask (b / 2) 2, over-bits a h, over-bits b k)
+    (by_cases (ℕ_discrete (a / 2 % 4) (b / 2 % 4))
+    (λ e. by_cases (ℕ_discrete (a / 2 ^ 63) (b / 2 ^ 63))
+    (λ f. simp (eq-eqb (a / 2 % 4) (b / 2 % 4) e, eq-eqb (a / 2 ^ 63) (b / 2 ^ 63) f, eq-eqb (a / 2 % 4 + 4 * (1 - a / 2 ^ 63)) (b / 2 % 4 + 4 * (1 - b / 2 ^ 63)) (omega arith)))
+    (λ f. simp (eq-eqb (a / 2 % 4) (b / 2 % 4) e, ne_eqb (a / 2 ^ 63) (b / 2 ^ 63) f, ne_eqb (a / 2 % 4 + 4 * (1 - a / 2 ^ 63)) (b / 2 % 4 + 4 * (1 - b / 2 ^ 63)) (omega arith))))
+    (λ e. simp (ne_eqb (a / 2 % 4) (b / 2 % 4) e, ne_eqb (a / 2 % 4 + 4 * (1 - a / 2 ^ 63)) (b / 2 % 4 + 4 * (1 - b / 2 ^ 63)) (omega arith))))
+
+-- these bits of a word alone say the same
+pub kept_bits : (a : ℕ) → rights_over (bit_and a 0x8000_0000_0000_0006) ≡ rights_over a
+kept_bits a =
+    let one : set 1 0x8000_0000_0000_0006 ≡ true = refl in
+    let two : set 2 0x8000_0000_0000_0006 ≡ true = refl in
+    let top : set 63 0x8000_0000_0000_0006 ≡ true = refl in
+    rw (
+      set-and 1 a 0x8000_0000_0000_0006,
+      set-and 2 a 0x8000_0000_0000_0006,
+      set-and 63 a 0x8000_0000_0000_0006,
+      one,
+      two,
+      top,
+      itself (set 1 a),
+      itself (set 2 a),
+      itself (set 63 a),
+    )
+  where
+    itself : (b : Bool) → cond b true false ≡ b
+    itself true = refl
+    itself false = refl

@@ -7,9 +7,6 @@ ghost use Rattle.table.specs.Index.{index_forward, index_backward, index_steps};
 use crate::up_to::PageTableIndex;
 use answer::Refusal;
 
-// How many entries a table has.
-pub const ENTRY_COUNT: u16 = 512;
-
 impl PageTableIndex {
     // The index count entries on; none above 511. On and back are two operations, and the source's names.
     pub fn forward_checked(

@@ -7,7 +7,6 @@ mod level;
 mod size;
 mod up_to;
 
-pub use index::ENTRY_COUNT;
 pub use level::{PageTableLevel, SPANS};
 pub use size::PageSize;
-pub use up_to::{PageOffset, PageTableIndex, UpTo};
+pub use up_to::{ENTRY_COUNT, PageOffset, PageTableIndex, UpTo};

@@ -6,8 +6,14 @@ ghost use Rattle.table.specs.Index.{small};
 
 use answer::Refusal;
 
+// How many entries a table has.
+pub const ENTRY_COUNT: u16 = 512;
+
+// The index of the last one.
+const LAST_INDEX: u16 = ENTRY_COUNT - 1;
+
 // A nine-bit index into a table.
-pub type PageTableIndex = UpTo<511>;
+pub type PageTableIndex = UpTo<LAST_INDEX>;
 
 // A twelve-bit offset into a 4 KiB page.
 pub type PageOffset = UpTo<4095>;

@@ -12,10 +12,10 @@ returns-then-is_unfound c = passes-absent (ahead_of _ _) _ (absent-under _ c.in-
 pub overflow_add-frame : goal.overflow_add-frame
 overflow_add-frame c = omega (arith, leaf-frame c.in-Leaf.ensures, c.within_span.ensures)
 
-pub returns-then-take : goal.returns-then-take
-returns-then-take c =
+pub returns-then-take_by_bits : goal.returns-then-take_by_bits
+returns-then-take_by_bits c =
     passes-mapped (ahead_of _ _) (leaf-under c.in-Leaf.ensures _) _ c.requires.going (leaf-frame c.in-Leaf.ensures)
-    (rw (c.within_span.ensures, c.over-own.ensures, c.allows.ensures, c.if-take.true) at c.take.ensures)
+    (rw (c.within_span.ensures, c.allows.ensures, c.if-take_by_bits.true) at c.take_by_bits.ensures)
 
 pub returns-in_default : goal.returns-in_default
 returns-in_default c = stops-broken (ahead_of _ _) _ c.requires.going (outside-under _ c.in-Next.ensures c.requires.inside c.in_default.ensures) c.stop-in_default.ensures
@@ -33,10 +33,10 @@ returns-else-is_unfound c =
 pub returns-in-Reserved : goal.returns-in-Reserved
 returns-in-Reserved c = stops-broken (ahead_of _ _) _ c.requires.going (reserved-under _ c.in-Reserved.ensures) c.stop.ensures
 
-pub returns-else-take : goal.returns-else-take
-returns-else-take c =
+pub returns-else-take_by_bits : goal.returns-else-take_by_bits
+returns-else-take_by_bits c =
     ends-mapped (ahead_of _ _) (leaf-under c.in-Leaf.ensures _) _ c.requires.going
-    (rw (c.within_span.ensures, c.over-own.ensures, c.allows.ensures, c.if-take.false) at c.take.ensures)
+    (rw (c.within_span.ensures, c.allows.ensures, c.if-take_by_bits.false) at c.take_by_bits.ensures)
 
 pub returns-else-is_unfound-2 : goal.returns-else-is_unfound-2
 returns-else-is_unfound-2 c = (refl, rw c.allows-in-Next.ensures (lower-under _ c.in-Next.ensures c.requires.inside c.in-Some.ensures))
