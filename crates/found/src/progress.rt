@@ -1,9 +1,10 @@
 // What a search has found on its way.
-ghost use Rattle.std.specs.Prelude.{◌≡◌, eqb};
+ghost use Rattle.std.specs.Prelude.{◌≡◌, eqb, true, false};
+ghost use Rattle.std.specs.Int.Bits.{bit_and};
 ghost use Rattle.paging.specs.Packed.{rights_bits, rights_over};
 ghost use Rattle.paging.specs.Progress.{Halts, Takes, finds_nothing};
 ghost use Rattle.walk.specs.Rights.{rights_held};
-ghost use Rattle.found.specs.Progress.{progress_of, reason_of};
+ghost use Rattle.found.specs.Progress.{begun_at, progress_of, reason_of, rights_mask, rights_word};
 
 use walk::Rights;
 
@@ -19,8 +20,8 @@ pub enum StopReason {
 pub enum Progress {
     // Absent pages alone.
     Unfound,
-    // A run, by its first page and frame. Its rights are a word, as those of a walk are, with no other bits: an entry is then told to belong to it by one test, where three
-    // truth values take three.
+    // A run, by its first page and frame. Its rights are a word, as those of a walk are, in which `take` leaves no other bits: an entry is told to belong to it by one test,
+    // where three truth values take three.
     Running {
         page: u64,
         frame: u64,
@@ -47,7 +48,8 @@ fn say_same(one: u64, other: u64) -> bool
 
 // A word that says the rights, as those of a walk do.
 fn word_of(rights: Rights) -> u64
-    ensures { rights_over result ≡ rights_held rights }
+    ensures says { rights_over result ≡ rights_held rights }
+    ensures word { result ≡ rights_word (rights_held rights) }
 {
     let writable = u64::from(rights.writable);
     let user = u64::from(rights.user);
@@ -65,7 +67,8 @@ impl Progress {
 
     // Stops at a broken page, unless something is found before it.
     pub fn stop(&mut self, page: u64, level: u64, reason: StopReason)
-        ensures { Halts page level (reason_of reason) (progress_of self.old) (progress_of self.new) }
+        ensures halts { Halts page level (reason_of reason) (progress_of self.old) (progress_of self.new) }
+        ensures kept { finds_nothing (progress_of self.old) ≡ false → self.new ≡ self.old }
     {
         if self.is_unfound() {
             *self = Progress::Stopped {
@@ -78,7 +81,9 @@ impl Progress {
 
     // Takes a page that is mapped to a frame: it begins a run, or belongs to the one found, or ends it, which is false.
     pub fn take(&mut self, page: u64, frame: u64, rights: Rights) -> bool
-        ensures { Takes page frame (rights_held rights) (progress_of self.old) (progress_of self.new) result }
+        ensures takes { Takes page frame (rights_held rights) (progress_of self.old) (progress_of self.new) result }
+        ensures kept { finds_nothing (progress_of self.old) ≡ false → self.new ≡ self.old }
+        ensures begun { finds_nothing (progress_of self.old) ≡ true → self.new ≡ begun_at page frame (rights_word (rights_held rights)) }
     {
         self.take_by_bits(page, frame, word_of(rights))
     }
@@ -86,7 +91,9 @@ impl Progress {
     // The same by the bits that all words of a walk have, as `Rights::over` reads them.
     #[tactic(auto, using(paging::proofs::RightsBits::kept_bits))]
     pub fn take_by_bits(&mut self, page: u64, frame: u64, all: u64) -> bool
-        ensures { Takes page frame (rights_over all) (progress_of self.old) (progress_of self.new) result }
+        ensures takes { Takes page frame (rights_over all) (progress_of self.old) (progress_of self.new) result }
+        ensures kept { finds_nothing (progress_of self.old) ≡ false → self.new ≡ self.old }
+        ensures begun { finds_nothing (progress_of self.old) ≡ true → self.new ≡ begun_at page frame (bit_and all rights_mask) }
     {
         match *self {
             Progress::Unfound => {
