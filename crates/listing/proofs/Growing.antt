@@ -1,7 +1,9 @@
 -- A text with zeros behind it: the text, and what is left of the line's bytes.
-use Rattle.std.specs.Prelude.{◌≡◌, ℕ, List, ◌+◌, ◌-◌, ◌<◌, length, take, drop, set, replicate}
-use Rattle.std.proofs.Common.{suc, arith}
+use Rattle.std.specs.Prelude.{◌≡◌, ℕ, List, ◌+◌, ◌-◌, ◌<◌, ◌≤◌, length, take, drop, set, replicate}
+use Rattle.std.proofs.Common.{suc, arith, ap, ◌∙◌, sym}
+use Rattle.std.proofs.Math.ListN.{take-append-drop}
 use Rattle.std.proofs.Math.Seq.{drop-drop, drop-set-lt, take-append_seam, drop-append_seam}
+use Rattle.std.proofs.lemmas.List.{length-take-le}
 use Rattle.listing.specs.Text.{line_bytes, padded}
 
 pub holds : (text : List ℕ) → take (length text) (padded text) ≡ text
@@ -16,3 +18,14 @@ zeros-left bytes n byte h zeros =
     let less : n < n + 1 = omega arith in
     let e : line_bytes - n ≡ suc (line_bytes - (n + 1)) = omega arith in
     rw (drop-set-lt (n + 1) bytes n byte, ← drop-drop 1 n bytes, zeros, e)
+
+-- the bytes of a line that has a text and zeros behind it: they are that text, padded
+pub held : (bytes text : List ℕ) (n : ℕ)
+    → length bytes ≡ line_bytes
+    → n ≤ line_bytes
+    → take n bytes ≡ text
+    → drop n bytes ≡ replicate (line_bytes - n) 0
+    → (n ≡ length text) × (bytes ≡ padded text)
+held bytes text n whole fits e zeros =
+    let len : n ≡ length text = sym (length-take-le n bytes (omega arith)) ∙ ap length e in
+    (len, rw (← len, ← zeros, ← e) (sym (take-append-drop n bytes)))
